@@ -1,0 +1,25 @@
+// The operations that signed code shares: an exact sum, the lesser of two numbers, and half of one rounded down.
+ghost use mathlib.Core.Path.{_≡_};
+ghost use lib.IntN.{_+ℤ_};
+ghost use Rattle.integers.specs.Minimum.{minℤ, halfℤ};
+
+// The sum of two numbers, which always fits.
+pub fn sum(a: i32, b: i32) -> i64
+    ensures { λ r. ⌜ r ≡ a +ℤ b ⌝ }
+{
+    (a as i64) + (b as i64)
+}
+
+// The lesser of two numbers.
+pub fn lesser(a: i64, b: i64) -> i64
+    ensures { λ r. ⌜ r ≡ minℤ a b ⌝ }
+{
+    if b < a { b } else { a }
+}
+
+// Half of a number, rounded down: a division would round toward zero.
+pub fn half(a: i64) -> i64
+    ensures { λ r. ⌜ r ≡ halfℤ a ⌝ }
+{
+    a >> 1
+}

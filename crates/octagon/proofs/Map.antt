@@ -1,0 +1,90 @@
+-- The test that normalised bounds are on the map, in cells; and that such bounds fit an i32. Assumes nothing.
+use mathlib.Core.Path.{_≡_, sym, _∙_}
+use mathlib.Core.Bool.{true, false}
+use Prim.Native.Nat.{ℕ, _+_, _≤_}
+use native.Mathlib.Omega.{arith}
+use lib.IntN.{ℤ, pos}
+use lib.Signed.{leZ}
+use mir.Syntax.{w32}
+use Rattle.integers.proofs.Parts.{up, dn}
+use Rattle.integers.proofs.Linear.{Diff, #, _⊕_, neg, lit, _≼_}
+use Rattle.integers.proofs.Tests.{and-le, test-le, le-test, and-true, true-is-not-false}
+use Rattle.integers.proofs.Between.{decide}
+use Rattle.integers.proofs.Range.{room-near, room-fits32}
+use Rattle.octagon.specs.declared.Octagon.{Octagon}
+use Rattle.octagon.specs.Cells.{_⊆_, Some, In, OnMap, limit}
+use Rattle.octagon.specs.NormalForm.{is-on-map}
+use Rattle.octagon.specs.Widths.{Held}
+use Rattle.octagon.proofs.Within.{Within, Normal, Near, OnGrid, within, cell-in, on-grid, on-map}
+use Rattle.octagon.proofs.Vertices.{at, vertex-12, vertex-34, vertex-56, vertex-70}
+
+-- ---- the test
+
+pub test-near : (c : Octagon) → is-on-map c ≡ true → Near c
+unfolding is-on-map up dn
+test-near c h =
+    let p6 = and-le _ (c .c6) (pos limit) h in
+    let p4 = and-le _ (c .c4) (pos limit) (p6 .0) in
+    let p2 = and-le (leZ (c .c0) (pos limit)) (c .c2) (pos limit) (p4 .0) in
+    record { near0 = test-le (c .c0) (pos limit) (p2 .0); near2 = p2 .1; near4 = p4 .1; near6 = p6 .1 }
+
+pub near-test : (c : Octagon) → Near c → is-on-map c ≡ true
+unfolding is-on-map up dn
+near-test c n =
+    and-true (and-true (and-true
+    (le-test (c .c0) (pos limit) (n .near0))
+    (le-test (c .c2) (pos limit) (n .near2)))
+    (le-test (c .c4) (pos limit) (n .near4)))
+    (le-test (c .c6) (pos limit) (n .near6))
+
+-- ---- its cells
+
+pub near-cells : (c : Octagon) → Near c → In c ⊆ OnMap
+near-cells c n x y i = on-map (go (within i))
+  where
+    go : Within c x y → OnGrid x y
+    go k = omega arith
+
+pub cells-near : (c : Octagon) → Normal c → In c ⊆ OnMap → Near c
+cells-near c n h =
+    let v1 = vertex-12 c n in
+    let v3 = vertex-34 c n in
+    let v5 = vertex-56 c n in
+    let v7 = vertex-70 c n in
+    let g1 = on-grid (h (v1 .x) (v1 .y) (cell-in (v1 .inside))) in
+    let g3 = on-grid (h (v3 .x) (v3 .y) (cell-in (v3 .inside))) in
+    let g5 = on-grid (h (v5 .x) (v5 .y) (cell-in (v5 .inside))) in
+    let g7 = on-grid (h (v7 .x) (v7 .y) (cell-in (v7 .inside))) in
+    record {
+      near0 = omega (arith, v7 .at-y, g7 .south);
+      near2 = omega (arith, v1 .at-x, g1 .east);
+      near4 = omega (arith, v3 .at-y, g3 .north);
+      near6 = omega (arith, v5 .at-x, g5 .west);
+    }
+
+-- a vertex off the map
+pub far-cell : (c : Octagon) → Normal c → is-on-map c ≡ false → Some (λ x y. In c x y × ¬ (OnMap x y))
+far-cell c n h =
+    decide (# (c .c0)) (lit limit)
+    (λ m0. decide (# (c .c2)) (lit limit)
+    (λ m2. decide (# (c .c4)) (lit limit)
+    (λ m4. decide (# (c .c6)) (lit limit)
+    (λ m6. absurd (true-is-not-false (sym (near-test c (record { near0 = m0; near2 = m2; near4 = m4; near6 = m6 })) ∙ h)))
+    (λ f. let v = vertex-56 c n in at v (λ m. omega (arith, on-grid m, v .at-x))))
+    (λ f. let v = vertex-34 c n in at v (λ m. omega (arith, on-grid m, v .at-y))))
+    (λ f. let v = vertex-12 c n in at v (λ m. omega (arith, on-grid m, v .at-x))))
+    (λ f. let v = vertex-70 c n in at v (λ m. omega (arith, on-grid m, v .at-y)))
+
+-- ---- the bounds
+
+pub near-held : (c : Octagon) → Normal c → Near c → Held w32 c
+near-held c n m = record {
+  held0 = room-fits32 (room-near 32 limit (c .c0) tt (m .near0) (omega arith));
+  held1 = room-fits32 (room-near 32 (limit + limit) (c .c1) tt (omega arith) (omega arith));
+  held2 = room-fits32 (room-near 32 limit (c .c2) tt (m .near2) (omega arith));
+  held3 = room-fits32 (room-near 32 (limit + limit) (c .c3) tt (omega arith) (omega arith));
+  held4 = room-fits32 (room-near 32 limit (c .c4) tt (m .near4) (omega arith));
+  held5 = room-fits32 (room-near 32 (limit + limit) (c .c5) tt (omega arith) (omega arith));
+  held6 = room-fits32 (room-near 32 limit (c .c6) tt (m .near6) (omega arith));
+  held7 = room-fits32 (room-near 32 (limit + limit) (c .c7) tt (omega arith) (omega arith));
+}

@@ -1,0 +1,58 @@
+-- Normalised bounds are told by their cells: two octagons with the same cells whose bounds are all reached are equal. Assumes nothing.
+use mathlib.Core.Path.{_≡_, sym, _∙_, ap}
+use Prim.Native.Nat.{ℕ, _+_, _≤_}
+use native.Mathlib.Omega.{arith}
+use lib.IntN.{ℤ, negℤ, _+ℤ_, _-ℤ_}
+use lib.Signed.{_≤ℤ_}
+use Rattle.integers.proofs.Parts.{up, dn, le-parts, parts-eq}
+use Rattle.integers.proofs.Linear.{#, _≼_}
+use Rattle.octagon.specs.declared.Octagon.{Octagon}
+use Rattle.octagon.specs.Cells.{_⊆_, _≐_, Some, In, Reached, Normalised}
+
+-- eight bounds that are equal
+pub equal : {a b : Octagon} → a .c0 ≡ b .c0 → a .c1 ≡ b .c1 → a .c2 ≡ b .c2 → a .c3 ≡ b .c3 → a .c4 ≡ b .c4 → a .c5 ≡ b .c5 → a .c6 ≡ b .c6 →
+    a .c7 ≡ b .c7 → a ≡ b
+equal e0 e1 e2 e3 e4 e5 e6 e7 i =
+    record { c0 = e0 i; c1 = e1 i; c2 = e2 i; c3 = e3 i; c4 = e4 i; c5 = e5 i; c6 = e6 i; c7 = e7 i }
+
+-- a bound v that a cell of a reaches is at most b's bound of the same form
+at-most : {a : Octagon} {B : ℤ → ℤ → Type 0} (f : ℤ → ℤ → ℤ) (v w : ℤ) → In a ⊆ B → ((x y : ℤ) → B x y → f x y ≤ℤ w) →
+    Some (λ x y. In a x y × (f x y ≡ v)) → # v ≼ # w
+at-most f v w h k r = le-parts (rw (r .cell .1) at (k (r .x) (r .y) (h (r .x) (r .y) (r .cell .0))))
+
+-- each bound of a is at most b's
+pub record AtMost (a b : Octagon) : Type 0 where
+  pub m0 : # (a .c0) ≼ # (b .c0)
+  pub m1 : # (a .c1) ≼ # (b .c1)
+  pub m2 : # (a .c2) ≼ # (b .c2)
+  pub m3 : # (a .c3) ≼ # (b .c3)
+  pub m4 : # (a .c4) ≼ # (b .c4)
+  pub m5 : # (a .c5) ≼ # (b .c5)
+  pub m6 : # (a .c6) ≼ # (b .c6)
+  pub m7 : # (a .c7) ≼ # (b .c7)
+
+pub at-mosts : {a : Octagon} (b : Octagon) → Reached a → In a ⊆ In b → AtMost a b
+at-mosts {a} b r h = record {
+  m0 = at-most (λ x y. negℤ y) (a .c0) (b .c0) h (λ x y i. i .in0) (r .reached0);
+  m1 = at-most (λ x y. x -ℤ y) (a .c1) (b .c1) h (λ x y i. i .in1) (r .reached1);
+  m2 = at-most (λ x y. x) (a .c2) (b .c2) h (λ x y i. i .in2) (r .reached2);
+  m3 = at-most (λ x y. x +ℤ y) (a .c3) (b .c3) h (λ x y i. i .in3) (r .reached3);
+  m4 = at-most (λ x y. y) (a .c4) (b .c4) h (λ x y i. i .in4) (r .reached4);
+  m5 = at-most (λ x y. negℤ x +ℤ y) (a .c5) (b .c5) h (λ x y i. i .in5) (r .reached5);
+  m6 = at-most (λ x y. negℤ x) (a .c6) (b .c6) h (λ x y i. i .in6) (r .reached6);
+  m7 = at-most (λ x y. negℤ x -ℤ y) (a .c7) (b .c7) h (λ x y i. i .in7) (r .reached7);
+}
+
+pub unique : {a b : Octagon} → Reached a → Reached b → In a ≐ In b → a ≡ b
+unique {a} {b} r s h =
+    let p = at-mosts b r (λ x y. h x y .0) in
+    let q = at-mosts a s (λ x y. h x y .1) in
+    equal
+    (parts-eq (a .c0) (b .c0) (omega arith))
+    (parts-eq (a .c1) (b .c1) (omega arith))
+    (parts-eq (a .c2) (b .c2) (omega arith))
+    (parts-eq (a .c3) (b .c3) (omega arith))
+    (parts-eq (a .c4) (b .c4) (omega arith))
+    (parts-eq (a .c5) (b .c5) (omega arith))
+    (parts-eq (a .c6) (b .c6) (omega arith))
+    (parts-eq (a .c7) (b .c7) (omega arith))

@@ -1,0 +1,88 @@
+-- A cell within bounds, and bounds whose sides are nought or more, as linear facts that `omega` reads.
+-- `within` and `cell-in` lead to and from the sets of specs/Cells.antt. Assumes nothing.
+use Prim.Native.Nat.{ℕ, _+_, _≤_}
+use native.Mathlib.Omega.{arith}
+use lib.IntN.{ℤ, pos, negℤ, _+ℤ_, _-ℤ_}
+use Rattle.integers.proofs.Parts.{up, dn, sum-parts, diff-parts, neg-up, neg-dn, le-parts}
+use Rattle.integers.proofs.Linear.{Diff, #, _⊕_, neg, lit, _≼_, _≈_, le}
+use Rattle.octagon.specs.declared.Octagon.{Octagon}
+use Rattle.octagon.specs.Cells.{In, OnMap, limit}
+
+-- the cell (x, y) is within the bounds
+pub record Within (c : Octagon) (x y : ℤ) : Type 0 where
+  pub i0 : neg (# y) ≼ # (c .c0)
+  pub i1 : # x ⊕ neg (# y) ≼ # (c .c1)
+  pub i2 : # x ≼ # (c .c2)
+  pub i3 : # x ⊕ # y ≼ # (c .c3)
+  pub i4 : # y ≼ # (c .c4)
+  pub i5 : neg (# x) ⊕ # y ≼ # (c .c5)
+  pub i6 : neg (# x) ≼ # (c .c6)
+  pub i7 : neg (# x) ⊕ neg (# y) ≼ # (c .c7)
+
+pub within : {c : Octagon} {x y : ℤ} → In c x y → Within c x y
+within {c} {x} {y} i =
+    omega (
+      arith,
+      le-parts,
+      neg-up x,
+      neg-dn x,
+      neg-up y,
+      neg-dn y,
+      diff-parts x y,
+      sum-parts x y,
+      sum-parts (negℤ x) y,
+      diff-parts (negℤ x) y,
+    )
+
+pub cell-in : {c : Octagon} {x y : ℤ} → Within c x y → In c x y
+cell-in {c} {x} {y} i =
+    let nx : # (negℤ x) ≈ neg (# x) = omega (arith, neg-up x, neg-dn x) in
+    let ny : # (negℤ y) ≈ neg (# y) = omega (arith, neg-up y, neg-dn y) in
+    record {
+      in0 = le (neg (# y)) (# (c .c0)) ny (omega arith) (i .i0);
+      in1 = le (# x ⊕ neg (# y)) (# (c .c1)) (omega (arith, diff-parts x y)) (omega arith) (i .i1);
+      in2 = le (# x) (# (c .c2)) (omega arith) (omega arith) (i .i2);
+      in3 = le (# x ⊕ # y) (# (c .c3)) (omega (arith, sum-parts x y)) (omega arith) (i .i3);
+      in4 = le (# y) (# (c .c4)) (omega arith) (omega arith) (i .i4);
+      in5 = le (neg (# x) ⊕ # y) (# (c .c5)) (omega (arith, sum-parts (negℤ x) y)) (omega arith) (i .i5);
+      in6 = le (neg (# x)) (# (c .c6)) nx (omega arith) (i .i6);
+      in7 = le (neg (# x) ⊕ neg (# y)) (# (c .c7)) (omega (arith, diff-parts (negℤ x) y)) (omega arith) (i .i7);
+    }
+
+-- every side has a length of nought or more
+pub record Normal (c : Octagon) : Type 0 where
+  pub s0 : # (c .c0) ⊕ # (c .c0) ≼ # (c .c7) ⊕ # (c .c1)
+  pub s1 : # (c .c1) ≼ # (c .c0) ⊕ # (c .c2)
+  pub s2 : # (c .c2) ⊕ # (c .c2) ≼ # (c .c1) ⊕ # (c .c3)
+  pub s3 : # (c .c3) ≼ # (c .c2) ⊕ # (c .c4)
+  pub s4 : # (c .c4) ⊕ # (c .c4) ≼ # (c .c3) ⊕ # (c .c5)
+  pub s5 : # (c .c5) ≼ # (c .c4) ⊕ # (c .c6)
+  pub s6 : # (c .c6) ⊕ # (c .c6) ≼ # (c .c5) ⊕ # (c .c7)
+  pub s7 : # (c .c7) ≼ # (c .c6) ⊕ # (c .c0)
+
+-- the even bounds are within the map's limit
+pub record Near (c : Octagon) : Type 0 where
+  pub near0 : # (c .c0) ≼ lit limit
+  pub near2 : # (c .c2) ≼ lit limit
+  pub near4 : # (c .c4) ≼ lit limit
+  pub near6 : # (c .c6) ≼ lit limit
+
+-- the cell (x, y) is on the map
+pub record OnGrid (x y : ℤ) : Type 0 where
+  pub west : neg (lit limit) ≼ # x
+  pub east : # x ≼ lit limit
+  pub south : neg (lit limit) ≼ # y
+  pub north : # y ≼ lit limit
+
+pub on-grid : {x y : ℤ} → OnMap x y → OnGrid x y
+unfolding up dn
+on-grid {x} {y} m = omega (arith, le-parts)
+
+pub on-map : {x y : ℤ} → OnGrid x y → OnMap x y
+unfolding up dn
+on-map {x} {y} m = record {
+  west = le (neg (lit limit)) (# x) (omega arith) (omega arith) (m .west);
+  east = le (# x) (lit limit) (omega arith) (omega arith) (m .east);
+  south = le (neg (lit limit)) (# y) (omega arith) (omega arith) (m .south);
+  north = le (# y) (lit limit) (omega arith) (omega arith) (m .north);
+}

@@ -1,0 +1,69 @@
+-- Octagons as sets of cells, in the words of document 01. This file is what a reader must believe of sets. Assumes nothing.
+use mathlib.Core.Path.{_≡_}
+use mathlib.Core.Logic.{_↔_}
+use Prim.Native.Nat.{ℕ}
+use lib.IntN.{ℤ, pos, negℤ, _+ℤ_, _-ℤ_}
+use lib.Signed.{_≤ℤ_}
+use Rattle.octagon.specs.declared.Octagon.{Octagon}
+
+-- a set of cells: what is said of the cell (x, y)
+abbrev pub Cells : Type 1
+Cells = ℤ → ℤ → Type 0
+
+-- each cell of one set is a cell of the other
+infix 50 _⊆_
+abbrev pub _⊆_ : Cells → Cells → Type 0
+A ⊆ B = (x y : ℤ) → A x y → B x y
+
+-- two sets with the same cells
+infix 50 _≐_
+abbrev pub _≐_ : Cells → Cells → Type 0
+A ≐ B = (x y : ℤ) → A x y ↔ B x y
+
+-- a set with no cell
+abbrev pub Empty : Cells → Type 0
+Empty A = (x y : ℤ) → ¬ (A x y)
+
+-- some cell of a set
+pub record Some (A : Cells) : Type 0 where
+  pub x : ℤ
+  pub y : ℤ
+  pub cell : A x y
+
+-- the cell (x, y) is within the bounds: the cells of the octagon
+pub record In (c : Octagon) (x y : ℤ) : Type 0 where
+  pub in0 : negℤ y ≤ℤ c .c0
+  pub in1 : (x -ℤ y) ≤ℤ c .c1
+  pub in2 : x ≤ℤ c .c2
+  pub in3 : (x +ℤ y) ≤ℤ c .c3
+  pub in4 : y ≤ℤ c .c4
+  pub in5 : (negℤ x +ℤ y) ≤ℤ c .c5
+  pub in6 : negℤ x ≤ℤ c .c6
+  pub in7 : (negℤ x -ℤ y) ≤ℤ c .c7
+
+-- the map's limit, in cells from its middle
+abbrev pub limit : ℕ
+limit = 16000
+
+-- the cell (x, y) is on the map
+pub record OnMap (x y : ℤ) : Type 0 where
+  pub west : negℤ (pos limit) ≤ℤ x
+  pub east : x ≤ℤ pos limit
+  pub south : negℤ (pos limit) ≤ℤ y
+  pub north : y ≤ℤ pos limit
+
+-- every bound is reached: some cell within the bounds meets it with equality
+pub record Reached (c : Octagon) : Type 0 where
+  pub reached0 : Some (λ x y. In c x y × (negℤ y ≡ c .c0))
+  pub reached1 : Some (λ x y. In c x y × (x -ℤ y ≡ c .c1))
+  pub reached2 : Some (λ x y. In c x y × (x ≡ c .c2))
+  pub reached3 : Some (λ x y. In c x y × (x +ℤ y ≡ c .c3))
+  pub reached4 : Some (λ x y. In c x y × (y ≡ c .c4))
+  pub reached5 : Some (λ x y. In c x y × (negℤ x +ℤ y ≡ c .c5))
+  pub reached6 : Some (λ x y. In c x y × (negℤ x ≡ c .c6))
+  pub reached7 : Some (λ x y. In c x y × (negℤ x -ℤ y ≡ c .c7))
+
+-- normalised bounds: the set has a cell, and each bound is reached
+pub record Normalised (c : Octagon) : Type 0 where
+  pub some : Some (In c)
+  pub reached : Reached c

@@ -1,0 +1,100 @@
+-- The normal form of eight bounds, its sides, and the answer of `normalise`: definitions that compute.
+-- proofs/Normalising.antt says what they mean in sets. Assumes nothing.
+use mathlib.Core.Bool.{Bool, cond, _&&_}
+use lib.IntN.{ℤ, pos, _+ℤ_, _-ℤ_}
+use lib.Signed.{leZ}
+use Rattle.integers.specs.Minimum.{minℤ, halfℤ}
+use Rattle.octagon.specs.declared.Octagon.{Octagon}
+use Rattle.octagon.specs.Outcome.{Outcome, accepted, refused, no-cell, off-map}
+use Rattle.octagon.specs.Cells.{limit}
+
+-- the least that an even bound can be: its own value, two sums of bounds across a corner, half the sum of its neighbours
+unfoldable pub even-bound : ℤ → ℤ → ℤ → ℤ → ℤ → ℤ
+even-bound far-before before own after far-after =
+    minℤ (minℤ own (far-before +ℤ after)) (minℤ (before +ℤ far-after) (halfℤ (before +ℤ after)))
+
+-- the least that an odd bound can be: its own value, or the sum of its neighbours
+unfoldable pub odd-bound : ℤ → ℤ → ℤ → ℤ
+odd-bound before own after = minℤ own (before +ℤ after)
+
+unfoldable pub tight-even : Octagon → Octagon
+tight-even c = record {
+  c0 = even-bound (c .c6) (c .c7) (c .c0) (c .c1) (c .c2);
+  c1 = c .c1;
+  c2 = even-bound (c .c0) (c .c1) (c .c2) (c .c3) (c .c4);
+  c3 = c .c3;
+  c4 = even-bound (c .c2) (c .c3) (c .c4) (c .c5) (c .c6);
+  c5 = c .c5;
+  c6 = even-bound (c .c4) (c .c5) (c .c6) (c .c7) (c .c0);
+  c7 = c .c7;
+}
+
+unfoldable pub tight-odd : Octagon → Octagon
+tight-odd c = record {
+  c0 = c .c0;
+  c1 = odd-bound (c .c0) (c .c1) (c .c2);
+  c2 = c .c2;
+  c3 = odd-bound (c .c2) (c .c3) (c .c4);
+  c4 = c .c4;
+  c5 = odd-bound (c .c4) (c .c5) (c .c6);
+  c6 = c .c6;
+  c7 = odd-bound (c .c6) (c .c7) (c .c0);
+}
+
+-- the normal form of bounds that hold a cell: one pass over the even bounds, one over the odd
+unfoldable pub normal-form : Octagon → Octagon
+normal-form c = tight-odd (tight-even c)
+
+-- the side lengths of document 01: an even side is c(k-1) + c(k+1) - 2c(k), an odd side c(k-1) + c(k+1) - c(k)
+pub record Sides : Type 0 where
+  pub n0 : ℤ
+  pub n1 : ℤ
+  pub n2 : ℤ
+  pub n3 : ℤ
+  pub n4 : ℤ
+  pub n5 : ℤ
+  pub n6 : ℤ
+  pub n7 : ℤ
+
+abbrev pub even-side : ℤ → ℤ → ℤ → ℤ
+even-side before own after = (before +ℤ after) -ℤ (own +ℤ own)
+
+abbrev pub odd-side : ℤ → ℤ → ℤ → ℤ
+odd-side before own after = (before +ℤ after) -ℤ own
+
+unfoldable pub sides : Octagon → Sides
+sides c = record {
+  n0 = even-side (c .c7) (c .c0) (c .c1);
+  n1 = odd-side (c .c0) (c .c1) (c .c2);
+  n2 = even-side (c .c1) (c .c2) (c .c3);
+  n3 = odd-side (c .c2) (c .c3) (c .c4);
+  n4 = even-side (c .c3) (c .c4) (c .c5);
+  n5 = odd-side (c .c4) (c .c5) (c .c6);
+  n6 = even-side (c .c5) (c .c6) (c .c7);
+  n7 = odd-side (c .c6) (c .c7) (c .c0);
+}
+
+-- an even side is nought or more
+abbrev pub has-side : ℤ → ℤ → ℤ → Bool
+has-side before own after = leZ (own +ℤ own) (before +ℤ after)
+
+-- a normal form has a cell where its even sides are nought or more: its odd sides always are
+unfoldable pub has-cell : Octagon → Bool
+has-cell c =
+    has-side (c .c7) (c .c0) (c .c1) && has-side (c .c1) (c .c2) (c .c3) && has-side (c .c3) (c .c4) (c .c5) && has-side (c .c5) (c .c6) (c .c7)
+
+-- a bound is within the map's limit
+abbrev pub within-limit : ℤ → Bool
+within-limit z = leZ z (pos limit)
+
+-- normalised bounds are on the map where the even ones are within the limit
+unfoldable pub is-on-map : Octagon → Bool
+is-on-map c = within-limit (c .c0) && within-limit (c .c2) && within-limit (c .c4) && within-limit (c .c6)
+
+-- normalised bounds, refused where they leave the map
+unfoldable pub placed : Octagon → Outcome Octagon
+placed c = cond (is-on-map c) (accepted c) (refused off-map)
+
+-- what `normalise` answers
+unfoldable pub normalised : Octagon → Outcome Octagon
+normalised c = cond (has-cell (normal-form c)) (placed (normal-form c)) (refused no-cell)

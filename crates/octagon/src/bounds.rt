@@ -1,0 +1,161 @@
+// Eight bounds in 64 bits, wide enough for the sums of a normal form, and the steps to it.
+ghost use mathlib.Core.Path.{_≡_};
+ghost use mathlib.Core.Bool.{true};
+ghost use mir.Syntax.{w32};
+ghost use Rattle.integers.specs.Range.{Room};
+ghost use Rattle.octagon.specs.NormalForm as form;
+ghost use Rattle.octagon.specs.Answers.{outcome, «octagon-of»};
+ghost use Rattle.octagon.specs.Widths.{Held, Roomy};
+use crate::Answer;
+use crate::OFF_MAP;
+use crate::Octagon;
+use integers::half;
+use integers::lesser;
+use integers::sum;
+
+pub struct Bounds {
+    pub c0: i64,
+    pub c1: i64,
+    pub c2: i64,
+    pub c3: i64,
+    pub c4: i64,
+    pub c5: i64,
+    pub c6: i64,
+    pub c7: i64,
+}
+
+// The least that an even bound can be, from the two bounds on each side of it.
+fn even_bound(far_before: i32, before: i32, own: i32, after: i32, far_after: i32) -> i64
+    ensures { λ r. ⌜ r ≡ form.even-bound «far_before» before own after «far_after» ⌝ }
+{
+    lesser(
+        lesser(own as i64, sum(far_before, after)),
+        lesser(sum(before, far_after), half(sum(before, after))),
+    )
+}
+
+// The even bounds made as small as they can be.
+pub fn tighten_even(o: Octagon) -> Bounds
+    ensures { λ r. ⌜ «octagon-of» r ≡ form.tight-even o ⌝ }
+{
+    let c0 = o.c0;
+    let c1 = o.c1;
+    let c2 = o.c2;
+    let c3 = o.c3;
+    let c4 = o.c4;
+    let c5 = o.c5;
+    let c6 = o.c6;
+    let c7 = o.c7;
+    Bounds {
+        c0: even_bound(c6, c7, c0, c1, c2),
+        c1: c1 as i64,
+        c2: even_bound(c0, c1, c2, c3, c4),
+        c3: c3 as i64,
+        c4: even_bound(c2, c3, c4, c5, c6),
+        c5: c5 as i64,
+        c6: even_bound(c4, c5, c6, c7, c0),
+        c7: c7 as i64,
+    }
+}
+
+// The least that an odd bound can be, from its neighbours.
+fn odd_bound(before: i64, own: i64, after: i64) -> i64
+    requires { ⌜ Room 1 before ⌝ }
+    requires { ⌜ Room 1 after ⌝ }
+    ensures { λ r. ⌜ r ≡ form.odd-bound before own after ⌝ }
+{
+    lesser(own, before + after)
+}
+
+// The odd bounds made as small as they can be beside the even ones.
+pub fn tighten_odd(b: Bounds) -> Bounds
+    requires { ⌜ Roomy 2 («octagon-of» b) ⌝ }
+    ensures { λ r. ⌜ «octagon-of» r ≡ form.tight-odd («octagon-of» b) ⌝ }
+{
+    let c0 = b.c0;
+    let c1 = b.c1;
+    let c2 = b.c2;
+    let c3 = b.c3;
+    let c4 = b.c4;
+    let c5 = b.c5;
+    let c6 = b.c6;
+    let c7 = b.c7;
+    Bounds {
+        c0,
+        c1: odd_bound(c0, c1, c2),
+        c2,
+        c3: odd_bound(c2, c3, c4),
+        c4,
+        c5: odd_bound(c4, c5, c6),
+        c6,
+        c7: odd_bound(c6, c7, c0),
+    }
+}
+
+// Whether an even side is nought or more.
+fn has_side(before: i64, own: i64, after: i64) -> bool
+    requires { ⌜ Room 1 before ⌝ }
+    requires { ⌜ Room 1 own ⌝ }
+    requires { ⌜ Room 1 after ⌝ }
+    ensures { λ r. ⌜ r ≡ form.has-side before own after ⌝ }
+{
+    own + own <= before + after
+}
+
+// Whether a normal form has a cell.
+pub fn has_cell(b: Bounds) -> bool
+    requires { ⌜ Roomy 1 («octagon-of» b) ⌝ }
+    ensures { λ r. ⌜ r ≡ form.has-cell («octagon-of» b) ⌝ }
+{
+    let c0 = b.c0;
+    let c1 = b.c1;
+    let c2 = b.c2;
+    let c3 = b.c3;
+    let c4 = b.c4;
+    let c5 = b.c5;
+    let c6 = b.c6;
+    let c7 = b.c7;
+    has_side(c7, c0, c1) & has_side(c1, c2, c3) & has_side(c3, c4, c5) & has_side(c5, c6, c7)
+}
+
+// Whether a bound is within the map's limit.
+fn within_limit(c: i64) -> bool
+    ensures { λ r. ⌜ r ≡ form.within-limit c ⌝ }
+{
+    c <= Octagon::LIMIT as i64
+}
+
+// Whether normalised bounds are on the map.
+fn on_map(b: Bounds) -> bool
+    ensures { λ r. ⌜ r ≡ form.is-on-map («octagon-of» b) ⌝ }
+{
+    within_limit(b.c0) & within_limit(b.c2) & within_limit(b.c4) & within_limit(b.c6)
+}
+
+// The same bounds in 32 bits.
+fn narrow(b: Bounds) -> Octagon
+    requires { ⌜ Held w32 («octagon-of» b) ⌝ }
+    ensures { λ r. ⌜ r ≡ «octagon-of» b ⌝ }
+{
+    Octagon {
+        c0: b.c0 as i32,
+        c1: b.c1 as i32,
+        c2: b.c2 as i32,
+        c3: b.c3 as i32,
+        c4: b.c4 as i32,
+        c5: b.c5 as i32,
+        c6: b.c6 as i32,
+        c7: b.c7 as i32,
+    }
+}
+
+// Normalised bounds as an answer.
+pub fn placed(b: Bounds) -> Answer
+    requires { ⌜ (form.is-on-map («octagon-of» b) ≡ true → Held w32 («octagon-of» b)) ⌝ }
+    ensures { λ r. ⌜ outcome r ≡ form.placed («octagon-of» b) ⌝ }
+{
+    if on_map(b) {
+        return Answer::Octagon(narrow(b));
+    }
+    Answer::Refused(OFF_MAP)
+}

@@ -1,0 +1,75 @@
+// Octagons of whole cells by their eight bounds, and their normal form.
+//
+// The cells of an octagon are those with -y <= c0, x-y <= c1, x <= c2, x+y <= c3, y <= c4, -x+y <= c5, -x <= c6, -x-y <= c7.
+// specs/Cells.antt has the sets, specs/NormalForm.antt what `normalise` answers, proofs/Normalising.antt the theorems between them.
+ghost use mathlib.Core.Path.{_≡_};
+ghost use Rattle.octagon.specs.NormalForm.{normalised};
+ghost use Rattle.octagon.specs.Answers.{outcome};
+
+mod bounds;
+
+// Document 01's plot, frame or clearance: eight bounds, every value allowed.
+pub struct Octagon {
+    pub c0: i32,
+    pub c1: i32,
+    pub c2: i32,
+    pub c3: i32,
+    pub c4: i32,
+    pub c5: i32,
+    pub c6: i32,
+    pub c7: i32,
+}
+
+// An octagon, or the number of the refusal.
+pub enum Answer {
+    Octagon(Octagon),
+    Refused(u32),
+}
+
+impl Octagon {
+    // The map's limit, in cells from its middle.
+    pub const LIMIT: i32 = 16000;
+
+    // The one cell at (0, 0).
+    pub const ORIGIN: Octagon = Octagon {
+        c0: 0,
+        c1: 0,
+        c2: 0,
+        c3: 0,
+        c4: 0,
+        c5: 0,
+        c6: 0,
+        c7: 0,
+    };
+
+    pub fn new(c0: i32, c1: i32, c2: i32, c3: i32, c4: i32, c5: i32, c6: i32, c7: i32) -> Self
+        ensures { λ r. ⌜ r ≡ record { c0 = c0; c1 = c1; c2 = c2; c3 = c3; c4 = c4; c5 = c5; c6 = c6; c7 = c7 } ⌝ }
+    {
+        Self {
+            c0,
+            c1,
+            c2,
+            c3,
+            c4,
+            c5,
+            c6,
+            c7,
+        }
+    }
+}
+
+// The refusal numbers of document 01 that this crate gives.
+pub const NO_CELL: u32 = 1;
+
+pub const OFF_MAP: u32 = 2;
+
+// The normal form of any eight bounds: the same cells, each bound reached. Refuses bounds with no cell, then those with a cell off the map.
+pub fn normalise(o: Octagon) -> Answer
+    ensures { λ r. ⌜ outcome r ≡ normalised o ⌝ }
+{
+    let b = bounds::tighten_odd(bounds::tighten_even(o));
+    if bounds::has_cell(b) {
+        return bounds::placed(b);
+    }
+    Answer::Refused(NO_CELL)
+}
