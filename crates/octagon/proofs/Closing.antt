@@ -88,6 +88,24 @@ even-side f b e a s p q r t =
     let h : # e ⊕ # e ⊕ neg (# (odd-bound f b e)) ≼ # (odd-bound e a s) = odd-over (# e ⊕ # e ⊕ neg (# (odd-bound f b e))) e a s (omega arith) in
     omega arith
 
+-- the odd sides after the step over the odd bounds are nought or more
+pub record Odds (n : Octagon) : Type 0 where
+  pub o1 : # (n .c1) ≼ # (n .c0) ⊕ # (n .c2)
+  pub o3 : # (n .c3) ≼ # (n .c2) ⊕ # (n .c4)
+  pub o5 : # (n .c5) ≼ # (n .c4) ⊕ # (n .c6)
+  pub o7 : # (n .c7) ≼ # (n .c6) ⊕ # (n .c0)
+
+pub odds : (e : Octagon) → Odds (tight-odd e)
+unfolding tight-odd
+odds e =
+    omega (
+      arith,
+      odd-under (e .c0) (e .c1) (e .c2),
+      odd-under (e .c2) (e .c3) (e .c4),
+      odd-under (e .c4) (e .c5) (e .c6),
+      odd-under (e .c6) (e .c7) (e .c0),
+    )
+
 pub form-normal : (c : Octagon) (x y : ℤ) → Within c x y → Normal (normal-form c)
 unfolding normal-form tight-odd
 form-normal c x y i = go (even-in c x y i)
@@ -99,13 +117,14 @@ form-normal c x y i = go (even-in c x y i)
     go k =
         let u : Evens c e = evens c in
         let s : Slants c e = slants c x y i k in
+        let o = odds e in
         record {
           s0 = even-side (e .c6) (e .c7) (e .c0) (e .c1) (e .c2) (omega arith) (omega arith) (omega arith) (omega arith);
-          s1 = odd-under (e .c0) (e .c1) (e .c2) .sum;
+          s1 = o .o1;
           s2 = even-side (e .c0) (e .c1) (e .c2) (e .c3) (e .c4) (omega arith) (omega arith) (omega arith) (omega arith);
-          s3 = odd-under (e .c2) (e .c3) (e .c4) .sum;
+          s3 = o .o3;
           s4 = even-side (e .c2) (e .c3) (e .c4) (e .c5) (e .c6) (omega arith) (omega arith) (omega arith) (omega arith);
-          s5 = odd-under (e .c4) (e .c5) (e .c6) .sum;
+          s5 = o .o5;
           s6 = even-side (e .c4) (e .c5) (e .c6) (e .c7) (e .c0) (omega arith) (omega arith) (omega arith) (omega arith);
-          s7 = odd-under (e .c6) (e .c7) (e .c0) .sum;
+          s7 = o .o7;
         }

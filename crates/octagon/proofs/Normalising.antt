@@ -14,11 +14,11 @@ use Rattle.integers.proofs.Tests.{cases, and-le, test-le, le-test, and-true, tr
 use Rattle.octagon.specs.declared.Octagon.{Octagon}
 use Rattle.octagon.specs.Outcome.{Outcome, accepted, refused, no-cell, off-map}
 use Rattle.octagon.specs.Cells.{_⊆_, _≐_, Empty, Some, In, OnMap, Normalised}
-use Rattle.octagon.specs.NormalForm.{has-side, has-cell, is-on-map, placed, normal-form, tight-odd, tight-even, normalised}
+use Rattle.octagon.specs.NormalForm.{has-side, has-cell, is-on-map, placed, normal-form, tight-even, normalised}
 use Rattle.octagon.specs.Widths.{Held}
 use Rattle.octagon.proofs.Within.{Within, Normal, Near, within, cell-in}
-use Rattle.octagon.proofs.Tight.{odd-under, form-in, form-out}
-use Rattle.octagon.proofs.Closing.{form-normal}
+use Rattle.octagon.proofs.Tight.{form-in, form-out}
+use Rattle.octagon.proofs.Closing.{odds, form-normal}
 use Rattle.octagon.proofs.Vertices.{normal-some, normal-normalised, reached-normal}
 use Rattle.octagon.proofs.Map.{test-near, near-test, near-cells, cells-near, far-cell, near-held}
 
@@ -59,20 +59,11 @@ test-evens c h =
 
 -- the odd sides of a normal form are nought or more
 pub test-normal : (c : Octagon) → has-cell (normal-form c) ≡ true → Normal (normal-form c)
-unfolding normal-form tight-odd
+unfolding normal-form
 test-normal c h =
-    let e = tight-even c in
     let s = test-evens (normal-form c) h in
-    record {
-      s0 = s .s0;
-      s1 = odd-under (e .c0) (e .c1) (e .c2) .sum;
-      s2 = s .s2;
-      s3 = odd-under (e .c2) (e .c3) (e .c4) .sum;
-      s4 = s .s4;
-      s5 = odd-under (e .c4) (e .c5) (e .c6) .sum;
-      s6 = s .s6;
-      s7 = odd-under (e .c6) (e .c7) (e .c0) .sum;
-    }
+    let o = odds (tight-even c) in
+    record { s0 = s .s0; s1 = o .o1; s2 = s .s2; s3 = o .o3; s4 = s .s4; s5 = o .o5; s6 = s .s6; s7 = o .o7 }
 
 pub form-held : (c : Octagon) → has-cell (normal-form c) ≡ true → is-on-map (normal-form c) ≡ true → Held w32 (normal-form c)
 form-held c h m = near-held (normal-form c) (test-normal c h) (test-near (normal-form c) m)

@@ -84,16 +84,14 @@ even-out c x y i =
 
 odd-in : (c : Octagon) (x y : ℤ) → Within c x y → Within (tight-odd c) x y
 unfolding tight-odd
-odd-in c x y i = record {
-  i0 = i .i0;
-  i1 = odd-over (# x ⊕ neg (# y)) (c .c0) (c .c1) (c .c2) (omega arith);
-  i2 = i .i2;
-  i3 = odd-over (# x ⊕ # y) (c .c2) (c .c3) (c .c4) (omega arith);
-  i4 = i .i4;
-  i5 = odd-over (neg (# x) ⊕ # y) (c .c4) (c .c5) (c .c6) (omega arith);
-  i6 = i .i6;
-  i7 = odd-over (neg (# x) ⊕ neg (# y)) (c .c6) (c .c7) (c .c0) (omega arith);
-}
+odd-in c x y i =
+    omega (
+      arith,
+      odd-over (# x ⊕ neg (# y)) (c .c0) (c .c1) (c .c2) (omega arith),
+      odd-over (# x ⊕ # y) (c .c2) (c .c3) (c .c4) (omega arith),
+      odd-over (neg (# x) ⊕ # y) (c .c4) (c .c5) (c .c6) (omega arith),
+      odd-over (neg (# x) ⊕ neg (# y)) (c .c6) (c .c7) (c .c0) (omega arith),
+    )
 
 odd-out : (c : Octagon) (x y : ℤ) → Within (tight-odd c) x y → Within c x y
 unfolding tight-odd
