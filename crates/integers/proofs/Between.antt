@@ -1,11 +1,11 @@
 -- An integer that lies between lists of bounds, the half of a difference, and the choice between two orders.
 -- Each hands the integer to a continuation, so that `omega` meets it as a plain variable. Assumes nothing.
 use mathlib.Core.List.{List, [], _∷_}
-use Prim.Native.Nat.{ℕ, _+_, _/_, max}
+use Prim.Native.Nat.{_+_, _/_, max}
 use native.Mathlib.Decide.{decLe}
 use native.Mathlib.Omega.{arith}
 use lib.IntN.{ℤ}
-use Rattle.integers.proofs.Linear.{Diff, #, _⊕_, lit, _≼_, _≈_, int, int-parts}
+use Rattle.integers.proofs.Linear.{Diff, #, _⊕_, lit, _≼_, int, int-parts}
 
 -- each of a list is at most u
 abbrev pub Under : List Diff → Diff → Type 0

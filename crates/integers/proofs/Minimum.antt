@@ -1,12 +1,11 @@
 -- What holds of the lesser of two integers and of half of one. Assumes nothing.
 use mathlib.Core.Path.{_≡_}
-use Prim.Native.Nat.{ℕ, _+_, _≤_, _/_}
 use native.Mathlib.Omega.{arith}
 use lib.IntN.{ℤ, pos, negsuc}
 use lib.Signed.{ltZ}
 use Rattle.integers.specs.Minimum.{minℤ, halfℤ}
 use Rattle.integers.proofs.Parts.{up, dn, cond-ind}
-use Rattle.integers.proofs.Linear.{Diff, #, _⊕_, lit, _≼_}
+use Rattle.integers.proofs.Linear.{#, _⊕_, lit, _≼_}
 use Rattle.integers.proofs.Tests.{lt-told, not-lt-told}
 
 -- what holds of each where it is the lesser holds of the lesser

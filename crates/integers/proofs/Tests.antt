@@ -1,13 +1,12 @@
 -- Tests of integers that compute, and the linear facts that they tell. Assumes nothing.
 use mathlib.Core.Path.{_≡_, refl}
 use mathlib.Core.Bool.{Bool, true, false, not, _&&_}
-use Prim.Native.Nat.{ℕ, _+_, _≤_}
 use native.Mathlib.Omega.{arith}
 use lib.Dec.{T, ltb→lt, nltb→le}
 use lib.IntN.{ℤ, pos, negsuc}
 use lib.Signed.{ltZ, leZ}
 use Rattle.integers.proofs.Parts.{up, dn, le-parts, parts-le}
-use Rattle.integers.proofs.Linear.{Diff, #, _⊕_, lit, _≼_}
+use Rattle.integers.proofs.Linear.{#, _⊕_, lit, _≼_}
 
 -- ---- truth values
 

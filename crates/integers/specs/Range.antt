@@ -1,5 +1,5 @@
 -- How far from 0 an integer may be so that sums of it still fit a machine's width. Assumes nothing.
-use Prim.Native.Nat.{ℕ, zero, suc, _^_, _≤_, _/_}
+use Prim.Native.Nat.{ℕ, zero, suc, _^_, _/_}
 use lib.IntN.{ℤ, negℤ, pos}
 use lib.Signed.{_≤ℤ_}
 

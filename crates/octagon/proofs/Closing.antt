@@ -1,9 +1,7 @@
 -- Where bounds hold a cell, the sides of their normal form are nought or more: `form-normal`. Assumes nothing.
 use mathlib.Core.Path.{refl}
-use Prim.Native.Nat.{ℕ, _+_, _≤_}
 use native.Mathlib.Omega.{arith}
 use lib.IntN.{ℤ}
-use Rattle.integers.proofs.Parts.{up, dn}
 use Rattle.integers.proofs.Linear.{Diff, #, _⊕_, neg, lit, _≼_, _≈_}
 use Rattle.octagon.specs.declared.Octagon.{Octagon}
 use Rattle.octagon.specs.NormalForm.{odd-bound, tight-even, tight-odd, normal-form}

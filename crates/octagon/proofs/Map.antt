@@ -1,18 +1,18 @@
 -- The test that normalised bounds are on the map, in cells; and that such bounds fit an i32. Assumes nothing.
 use mathlib.Core.Path.{_≡_, sym, _∙_}
 use mathlib.Core.Bool.{true, false}
-use Prim.Native.Nat.{ℕ, _+_, _≤_}
+use Prim.Native.Nat.{_+_}
 use native.Mathlib.Omega.{arith}
-use lib.IntN.{ℤ, pos}
+use lib.IntN.{pos}
 use lib.Signed.{leZ}
 use mir.Syntax.{w32}
 use Rattle.integers.proofs.Parts.{up, dn}
-use Rattle.integers.proofs.Linear.{Diff, #, _⊕_, neg, lit, _≼_}
+use Rattle.integers.proofs.Linear.{#, lit}
 use Rattle.integers.proofs.Tests.{and-le, test-le, le-test, and-true, true-is-not-false}
 use Rattle.integers.proofs.Between.{decide}
 use Rattle.integers.proofs.Range.{room-near, room-fits32}
 use Rattle.octagon.specs.declared.Octagon.{Octagon}
-use Rattle.octagon.specs.Cells.{_⊆_, Some, In, OnMap, limit}
+use Rattle.octagon.specs.Cells.{_⊆_, In, OnMap, LeavesMap, limit}
 use Rattle.octagon.specs.NormalForm.{is-on-map}
 use Rattle.octagon.specs.Widths.{Held}
 use Rattle.octagon.proofs.Within.{Within, Normal, Near, OnGrid, within, cell-in, on-grid, on-map}
@@ -63,7 +63,7 @@ cells-near c n h =
     }
 
 -- a vertex off the map
-pub far-cell : (c : Octagon) → Normal c → is-on-map c ≡ false → Some (λ x y. In c x y × ¬ (OnMap x y))
+pub far-cell : (c : Octagon) → Normal c → is-on-map c ≡ false → LeavesMap (In c)
 far-cell c n h =
     decide (# (c .c0)) (lit limit)
     (λ m0. decide (# (c .c2)) (lit limit)

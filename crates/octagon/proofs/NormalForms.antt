@@ -4,17 +4,16 @@ use mathlib.Core.Path.{_≡_, refl, sym, _∙_, ap}
 use mathlib.Core.Logic.{_↔_, _⊎_, inl, inr}
 use Prim.Native.Nat.{ℕ}
 use native.Mathlib.Omega.{arith}
-use lib.IntN.{ℤ}
 use Rattle.octagon.specs.declared.Octagon.{Octagon}
 use Rattle.octagon.specs.Outcome.{Outcome, accepted, refused, no-cell, off-map}
-use Rattle.octagon.specs.Cells.{_⊆_, _≐_, Empty, Some, In, OnMap, Normalised}
+use Rattle.octagon.specs.Cells.{_⊆_, _≐_, Empty, Some, In, OnMap, LeavesMap, Normalised}
 use Rattle.octagon.specs.NormalForm.{normalised}
 use Rattle.octagon.proofs.Outcomes.{accepted-same, refused-same, accepted-not-refused}
 use Rattle.octagon.proofs.Within.{Normal, Near}
 use Rattle.octagon.proofs.Vertices.{normal-some, normal-normalised, reached-normal}
 use Rattle.octagon.proofs.Map.{near-cells, cells-near}
 use Rattle.octagon.proofs.Unique.{unique}
-use Rattle.octagon.proofs.Normalising.{Leaves, Normalising, is-normal, is-empty, is-off, normalising}
+use Rattle.octagon.proofs.Normalising.{Normalising, is-normal, is-empty, is-off, normalising}
 
 -- what an accepted answer a for the bounds c says
 pub record Accepted (c a : Octagon) : Type 0 where
@@ -56,15 +55,15 @@ refused-no-cell c = (to (normalising c), from (normalising c) refl)
     from (is-off n h) q f = absurd (f (h .x) (h .y) (h .cell .0))
 
 -- refusal 2 exactly where some cell within the bounds is off the map
-pub refused-off-map : (c : Octagon) → (normalised c ≡ refused off-map) ↔ Leaves c
+pub refused-off-map : (c : Octagon) → (normalised c ≡ refused off-map) ↔ LeavesMap (In c)
 refused-off-map c = (to (normalising c), from (normalising c) refl)
   where
-    to : {o : Outcome Octagon} → Normalising c o → o ≡ refused off-map → Leaves c
+    to : {o : Outcome Octagon} → Normalising c o → o ≡ refused off-map → LeavesMap (In c)
     to (is-normal b e n m s) q = absurd (accepted-not-refused q)
     to (is-empty h) q = absurd (let z = refused-same q in omega arith)
     to (is-off n h) q = h
 
-    from : {o : Outcome Octagon} → Normalising c o → normalised c ≡ o → Leaves c → normalised c ≡ refused off-map
+    from : {o : Outcome Octagon} → Normalising c o → normalised c ≡ o → LeavesMap (In c) → normalised c ≡ refused off-map
     from (is-normal b e n m s) q f = absurd (f .cell .1 (near-cells b m (f .x) (f .y) (s (f .x) (f .y) .1 (f .cell .0))))
     from (is-empty h) q f = absurd (h (f .x) (f .y) (f .cell .0))
     from (is-off n h) q f = q

@@ -1,26 +1,22 @@
 -- What the answer of `normalise` means in sets. `normalising` says it whole, for any eight bounds; the theorems below it
 -- take it apart in the words of document 01. Assumes nothing.
-use mathlib.Core.Path.{_≡_, refl, sym, _∙_, ap}
-use mathlib.Core.Logic.{_↔_}
-use mathlib.Core.Bool.{Bool, true, false, cond, _&&_}
-use Prim.Native.Nat.{ℕ, _+_, _≤_}
+use mathlib.Core.Path.{_≡_, refl, sym, _∙_}
+use mathlib.Core.Bool.{true}
 use native.Mathlib.Omega.{arith}
-use lib.IntN.{ℤ, pos, _+ℤ_}
-use lib.Signed.{leZ}
+use lib.IntN.{ℤ, _+ℤ_}
 use mir.Syntax.{w32}
-use Rattle.integers.proofs.Parts.{up, dn, sum-parts, le-parts}
-use Rattle.integers.proofs.Linear.{Diff, #, _⊕_, neg, lit, _≼_}
+use Rattle.integers.proofs.Parts.{sum-parts}
+use Rattle.integers.proofs.Linear.{#, _⊕_, _≼_}
 use Rattle.integers.proofs.Tests.{cases, and-le, test-le, le-test, and-true, true-is-not-false}
 use Rattle.octagon.specs.declared.Octagon.{Octagon}
 use Rattle.octagon.specs.Outcome.{Outcome, accepted, refused, no-cell, off-map}
-use Rattle.octagon.specs.Cells.{_⊆_, _≐_, Empty, Some, In, OnMap, Normalised}
+use Rattle.octagon.specs.Cells.{_≐_, Empty, In, LeavesMap}
 use Rattle.octagon.specs.NormalForm.{has-side, has-cell, is-on-map, placed, normal-form, tight-even, normalised}
 use Rattle.octagon.specs.Widths.{Held}
-use Rattle.octagon.proofs.Within.{Within, Normal, Near, within, cell-in}
+use Rattle.octagon.proofs.Within.{Normal, Near, within, cell-in}
 use Rattle.octagon.proofs.Tight.{form-in, form-out}
 use Rattle.octagon.proofs.Closing.{odds, form-normal}
-use Rattle.octagon.proofs.Vertices.{normal-some, normal-normalised, reached-normal}
-use Rattle.octagon.proofs.Map.{test-near, near-test, near-cells, cells-near, far-cell, near-held}
+use Rattle.octagon.proofs.Map.{test-near, far-cell, near-held}
 
 -- ---- the test for a cell
 
@@ -73,15 +69,11 @@ form-held c h m = near-held (normal-form c) (test-normal c h) (test-near (normal
 pub form-cells : (c : Octagon) → In (normal-form c) ≐ In c
 form-cells c x y = (λ i. cell-in (form-out c x y (within i)), λ i. cell-in (form-in c x y (within i)))
 
--- some cell of the octagon is off the map
-abbrev pub Leaves : Octagon → Type 0
-Leaves c = Some (λ x y. In c x y × ¬ (OnMap x y))
-
 -- each answer, with what it says of the bounds c
 pub data Normalising (c : Octagon) : Outcome Octagon → Type 0 where
   is-normal : (a : Octagon) → a ≡ normal-form c → Normal a → Near a → In a ≐ In c → Normalising c (accepted a)
   is-empty : Empty (In c) → Normalising c (refused no-cell)
-  is-off : Normal (normal-form c) → Leaves c → Normalising c (refused off-map)
+  is-off : Normal (normal-form c) → LeavesMap (In c) → Normalising c (refused off-map)
 
 pub normalising : (c : Octagon) → Normalising c (normalised c)
 unfolding normalised placed
@@ -92,5 +84,5 @@ normalising c =
     (λ m. rw (h, m) (is-off (test-normal c h) (leaves (far-cell (normal-form c) (test-normal c h) m)))))
     (λ h. rw h (is-empty (λ x y i. true-is-not-false (sym (normal-test (normal-form c) (form-normal c x y (within i))) ∙ h))))
   where
-    leaves : Leaves (normal-form c) → Leaves c
+    leaves : LeavesMap (In (normal-form c)) → LeavesMap (In c)
     leaves f = record { x = f .x; y = f .y; cell = (form-cells c (f .x) (f .y) .0 (f .cell .0), f .cell .1) }

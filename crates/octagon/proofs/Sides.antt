@@ -1,12 +1,11 @@
 -- Bounds are normalised exactly where the eight side lengths of document 01 are nought or more, and then the sides close. Assumes nothing.
 use mathlib.Core.Path.{_≡_}
 use mathlib.Core.Logic.{_↔_}
-use Prim.Native.Nat.{ℕ, _+_, _≤_}
 use native.Mathlib.Omega.{arith}
-use lib.IntN.{ℤ, pos, _+ℤ_, _-ℤ_}
+use lib.IntN.{ℤ, pos, _+ℤ_}
 use lib.Signed.{_≤ℤ_}
 use Rattle.integers.proofs.Parts.{up, dn, sum-parts, diff-parts, le-parts, parts-eq}
-use Rattle.integers.proofs.Linear.{Diff, #, _⊕_, neg, lit, _≼_, _≈_, le}
+use Rattle.integers.proofs.Linear.{#, _⊕_, neg, lit, _≼_, _≈_, le}
 use Rattle.octagon.specs.declared.Octagon.{Octagon}
 use Rattle.octagon.specs.Cells.{Normalised}
 use Rattle.octagon.specs.NormalForm.{Sides, sides, even-side, odd-side}

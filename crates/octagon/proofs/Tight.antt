@@ -1,14 +1,13 @@
 -- The normal form has the same cells as its bounds, and where there is a cell its sides are nought or more. Assumes nothing.
-use Prim.Native.Nat.{ℕ, _+_, _≤_}
 use native.Mathlib.Omega.{arith}
 use lib.IntN.{ℤ, _+ℤ_}
 use Rattle.integers.specs.Minimum.{minℤ, halfℤ}
-use Rattle.integers.proofs.Parts.{up, dn, sum-parts}
-use Rattle.integers.proofs.Linear.{Diff, #, _⊕_, neg, lit, _≼_}
+use Rattle.integers.proofs.Parts.{sum-parts}
+use Rattle.integers.proofs.Linear.{Diff, #, _⊕_, neg, _≼_}
 use Rattle.integers.proofs.Minimum.{min-ind, min-left, min-right, halved}
 use Rattle.octagon.specs.declared.Octagon.{Octagon}
 use Rattle.octagon.specs.NormalForm.{even-bound, odd-bound, tight-even, tight-odd, normal-form}
-use Rattle.octagon.proofs.Within.{Within, Normal}
+use Rattle.octagon.proofs.Within.{Within}
 
 -- ---- an even bound is the greatest integer under four limits
 

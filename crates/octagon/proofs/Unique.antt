@@ -1,13 +1,12 @@
 -- Normalised bounds are told by their cells: two octagons with the same cells whose bounds are all reached are equal. Assumes nothing.
-use mathlib.Core.Path.{_≡_, sym, _∙_, ap}
-use Prim.Native.Nat.{ℕ, _+_, _≤_}
+use mathlib.Core.Path.{_≡_}
 use native.Mathlib.Omega.{arith}
 use lib.IntN.{ℤ, negℤ, _+ℤ_, _-ℤ_}
 use lib.Signed.{_≤ℤ_}
-use Rattle.integers.proofs.Parts.{up, dn, le-parts, parts-eq}
+use Rattle.integers.proofs.Parts.{le-parts, parts-eq}
 use Rattle.integers.proofs.Linear.{#, _≼_}
 use Rattle.octagon.specs.declared.Octagon.{Octagon}
-use Rattle.octagon.specs.Cells.{_⊆_, _≐_, Some, In, Reached, Normalised}
+use Rattle.octagon.specs.Cells.{_⊆_, _≐_, Some, In, Reached}
 
 -- eight bounds that are equal
 pub equal : {a b : Octagon} → a .c0 ≡ b .c0 → a .c1 ≡ b .c1 → a .c2 ≡ b .c2 → a .c3 ≡ b .c3 → a .c4 ≡ b .c4 → a .c5 ≡ b .c5 → a .c6 ≡ b .c6 →

@@ -1,11 +1,10 @@
 -- Four vertices of an octagon whose sides are nought or more, which reach all eight bounds:
 -- so bounds are normalised exactly where their sides are nought or more. Assumes nothing.
 use mathlib.Core.Path.{_≡_}
-use Prim.Native.Nat.{ℕ, _+_, _≤_}
 use native.Mathlib.Omega.{arith}
 use lib.IntN.{ℤ, negℤ, _+ℤ_, _-ℤ_}
-use Rattle.integers.proofs.Parts.{up, dn, sum-parts, diff-parts, neg-up, neg-dn, eq-parts}
-use Rattle.integers.proofs.Linear.{Diff, #, _⊕_, neg, lit, _≼_, _≈_, same}
+use Rattle.integers.proofs.Parts.{sum-parts, diff-parts, neg-up, neg-dn, eq-parts}
+use Rattle.integers.proofs.Linear.{Diff, #, _⊕_, neg, _≼_, _≈_, same}
 use Rattle.octagon.specs.declared.Octagon.{Octagon}
 use Rattle.octagon.specs.Cells.{Some, In, Reached, Normalised}
 use Rattle.octagon.proofs.Within.{Within, Normal, within, cell-in}

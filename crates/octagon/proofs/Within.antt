@@ -1,10 +1,9 @@
 -- A cell within bounds, and bounds whose sides are nought or more, as linear facts that `omega` reads.
 -- `within` and `cell-in` lead to and from the sets of specs/Cells.antt. Assumes nothing.
-use Prim.Native.Nat.{ℕ, _+_, _≤_}
 use native.Mathlib.Omega.{arith}
-use lib.IntN.{ℤ, pos, negℤ, _+ℤ_, _-ℤ_}
+use lib.IntN.{ℤ, negℤ}
 use Rattle.integers.proofs.Parts.{up, dn, sum-parts, diff-parts, neg-up, neg-dn, le-parts}
-use Rattle.integers.proofs.Linear.{Diff, #, _⊕_, neg, lit, _≼_, _≈_, le}
+use Rattle.integers.proofs.Linear.{#, _⊕_, neg, lit, _≼_, _≈_, le}
 use Rattle.octagon.specs.declared.Octagon.{Octagon}
 use Rattle.octagon.specs.Cells.{In, OnMap, limit}
 

@@ -52,6 +52,10 @@ pub record OnMap (x y : ℤ) : Type 0 where
   pub south : negℤ (pos limit) ≤ℤ y
   pub north : y ≤ℤ pos limit
 
+-- some cell of a set is off the map
+abbrev pub LeavesMap : Cells → Type 0
+LeavesMap A = Some (λ x y. A x y × ¬ (OnMap x y))
+
 -- every bound is reached: some cell within the bounds meets it with equality
 pub record Reached (c : Octagon) : Type 0 where
   pub reached0 : Some (λ x y. In c x y × (negℤ y ≡ c .c0))

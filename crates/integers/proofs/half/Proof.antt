@@ -1,5 +1,5 @@
 -- `half` meets its contract: the shift is the library's, and its result fits. Assumes nothing.
-use lib.Signed.{mag, mag-shr}
+use lib.Signed.{mag-shr}
 use native.Mathlib.Nat.{lt-of-le-of-lt}
 use mir.Syntax.{w64}
 use mir.Facts.{toZ-ofZ}

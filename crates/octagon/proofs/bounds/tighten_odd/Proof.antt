@@ -1,7 +1,6 @@
 -- `tighten_odd` meets its contract: four calls, and four bounds as they were. Assumes nothing.
 use mathlib.Core.Path.{_≡_, _∙_, ap, sym}
 use mir.Syntax.{w64}
-use Rattle.integers.proofs.Range.{signs}
 use Rattle.octagon.specs.NormalForm.{tight-odd}
 use Rattle.octagon.specs.Answers.{octagon-of}
 use Rattle.octagon.specs.Widths.{Held, Roomy}

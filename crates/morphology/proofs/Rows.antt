@@ -1,0 +1,152 @@
+-- Diagonal rows: the tests on normal bounds say what document 01 says of cells, and the sums of opposed rows are no octagon's cells.
+-- Assumes nothing.
+use mathlib.Core.Path.{_≡_, refl, sym, _∙_}
+use mathlib.Core.Logic.{_↔_, _⊎_, inl, inr}
+use mathlib.Core.Bool.{Bool, true, false, _&&_, _||_}
+use native.Mathlib.Omega.{arith}
+use lib.IntN.{ℤ, pos, _+ℤ_, _-ℤ_}
+use lib.Signed.{leZ}
+use Rattle.integers.proofs.Parts.{up, dn, sum-parts, diff-parts, eq-parts}
+use Rattle.integers.proofs.Linear.{#, _⊕_, lit, _≼_, same}
+use Rattle.integers.proofs.Between.{decide}
+use Rattle.integers.proofs.Tests.{both-true, and-true, test-le, le-test, true-is-not-false}
+use Rattle.octagon.specs.declared.Octagon.{Octagon}
+use Rattle.octagon.specs.Cells.{In}
+use Rattle.octagon.proofs.Within.{Within, Normal, within, cell-in}
+use Rattle.octagon.proofs.Vertices.{vertex-12, vertex-34, vertex-56, vertex-70}
+use Rattle.morphology.specs.Sets.{Rising, Falling, OpposedRows}
+use Rattle.morphology.specs.Operations.{is-row, is-rising, is-falling, are-opposed}
+use Rattle.morphology.proofs.Meet.{Opposed}
+
+-- ---- the tests as linear facts
+
+pub record Line (p q s t : ℤ) : Type 0 where
+  pub one-line : # p ⊕ # q ≼ lit 0
+  pub many : lit 1 ≼ # s ⊕ # t
+
+row-line : (p q s t : ℤ) → is-row p q s t ≡ true → Line p q s t
+unfolding up dn
+row-line p q s t h =
+    let b = both-true (leZ (p +ℤ q) (pos 0)) (leZ (pos 1) (s +ℤ t)) h in
+    let l = test-le (p +ℤ q) (pos 0) (b .0) in
+    let m = test-le (pos 1) (s +ℤ t) (b .1) in
+    record { one-line = omega (arith, l, sum-parts p q); many = omega (arith, m, sum-parts s t) }
+
+line-row : (p q s t : ℤ) → Line p q s t → is-row p q s t ≡ true
+unfolding up dn
+line-row p q s t l =
+    and-true (le-test (p +ℤ q) (pos 0) (omega (arith, l .one-line, sum-parts p q))) (le-test (pos 1) (s +ℤ t) (omega (arith, l .many, sum-parts s t)))
+
+-- ---- and as cells
+
+rising-cells : (c : Octagon) → Normal c → Line (c .c1) (c .c5) (c .c3) (c .c7) → Rising (In c)
+rising-cells c n l =
+    let v = vertex-34 c n in
+    let w = vertex-70 c n in
+    record {
+      line = c .c1;
+      on-line = λ x y i. on x y (within i);
+      two = record {
+        one = record { x = v .x; y = v .y; cell = cell-in (v .inside) };
+        other = record { x = w .x; y = w .y; cell = cell-in (w .inside) };
+        apart = λ e. omega (arith, eq-parts e, l .many, l .one-line, v .at-x, v .at-y, w .at-x, w .at-y, v .inside, w .inside, n);
+      };
+    }
+  where
+    on : (x y : ℤ) → Within c x y → x -ℤ y ≡ c .c1
+    on x y i = same (# (c .c1)) (omega (arith, diff-parts x y)) (omega arith)
+
+falling-cells : (c : Octagon) → Normal c → Line (c .c3) (c .c7) (c .c1) (c .c5) → Falling (In c)
+falling-cells c n l =
+    let v = vertex-12 c n in
+    let w = vertex-56 c n in
+    record {
+      line = c .c3;
+      on-line = λ x y i. on x y (within i);
+      two = record {
+        one = record { x = v .x; y = v .y; cell = cell-in (v .inside) };
+        other = record { x = w .x; y = w .y; cell = cell-in (w .inside) };
+        apart = λ e. omega (arith, eq-parts e, l .many, l .one-line, v .at-x, v .at-y, w .at-x, w .at-y, v .inside, w .inside, n);
+      };
+    }
+  where
+    on : (x y : ℤ) → Within c x y → x +ℤ y ≡ c .c3
+    on x y i = same (# (c .c3)) (omega (arith, sum-parts x y)) (omega arith)
+
+-- two vertices on one line x - y leave one line
+pub cells-rising : (c : Octagon) → Normal c → Rising (In c) → Line (c .c1) (c .c5) (c .c3) (c .c7)
+cells-rising c n r =
+    let v = vertex-12 c n in
+    let w = vertex-56 c n in
+    let p = r .on-line (v .x) (v .y) (cell-in (v .inside)) in
+    let q = r .on-line (w .x) (w .y) (cell-in (w .inside)) in
+    let one : # (c .c1) ⊕ # (c .c5) ≼ lit 0 = omega (arith, eq-parts p, eq-parts q, diff-parts (v .x) (v .y), diff-parts (w .x) (w .y), v .at-x, v .at-y, w .at-x, w .at-y) in
+    decide (lit 1) (# (c .c3) ⊕ # (c .c7)) (λ m. record { one-line = one; many = m })
+    (λ m. absurd (r .two .apart (narrow one m (within (r .two .one .cell)) (within (r .two .other .cell)))))
+  where
+    narrow : {x y v w : ℤ} → # (c .c1) ⊕ # (c .c5) ≼ lit 0 → # (c .c3) ⊕ # (c .c7) ⊕ lit 1 ≼ lit 1 → Within c x y → Within c v w → x ≡ v
+    narrow {x} {y} {v} {w} one m i j = same (# v) (omega arith) (omega arith)
+
+pub cells-falling : (c : Octagon) → Normal c → Falling (In c) → Line (c .c3) (c .c7) (c .c1) (c .c5)
+cells-falling c n r =
+    let v = vertex-34 c n in
+    let w = vertex-70 c n in
+    let p = r .on-line (v .x) (v .y) (cell-in (v .inside)) in
+    let q = r .on-line (w .x) (w .y) (cell-in (w .inside)) in
+    let one : # (c .c3) ⊕ # (c .c7) ≼ lit 0 = omega (arith, eq-parts p, eq-parts q, sum-parts (v .x) (v .y), sum-parts (w .x) (w .y), v .at-x, v .at-y, w .at-x, w .at-y) in
+    decide (lit 1) (# (c .c1) ⊕ # (c .c5)) (λ m. record { one-line = one; many = m })
+    (λ m. absurd (r .two .apart (narrow one m (within (r .two .one .cell)) (within (r .two .other .cell)))))
+  where
+    narrow : {x y v w : ℤ} → # (c .c3) ⊕ # (c .c7) ≼ lit 0 → # (c .c1) ⊕ # (c .c5) ⊕ lit 1 ≼ lit 1 → Within c x y → Within c v w → x ≡ v
+    narrow {x} {y} {v} {w} one m i j = same (# v) (omega arith) (omega arith)
+
+-- ---- one of each kind
+
+or-either : (a b : Bool) → (a || b) ≡ true → (a ≡ true) ⊎ (b ≡ true)
+or-either true b h = inl refl
+or-either false b h = inr h
+
+either-or : (a b : Bool) → (a ≡ true) ⊎ (b ≡ true) → (a || b) ≡ true
+either-or a b (inl p) = rw p refl
+either-or a b (inr q) = rw q (true-right a)
+  where
+    true-right : (a : Bool) → (a || true) ≡ true
+    true-right true = refl
+    true-right false = refl
+
+-- the test is true exactly for rows of which one is of each kind
+pub opposed-rows-test : (a b : Octagon) → Normal a → Normal b → (are-opposed a b ≡ true) ↔ OpposedRows (In a) (In b)
+unfolding are-opposed is-rising is-falling
+opposed-rows-test a b n k = (λ h. to (or-either _ _ h), λ r. either-or _ _ (from r))
+  where
+    to : ((is-rising a && is-falling b) ≡ true) ⊎ ((is-falling a && is-rising b) ≡ true) → OpposedRows (In a) (In b)
+    to (inl h) =
+        let p = both-true (is-rising a) (is-falling b) h in
+        inl (rising-cells a n (row-line (a .c1) (a .c5) (a .c3) (a .c7) (p .0)), falling-cells b k (row-line (b .c3) (b .c7) (b .c1) (b .c5) (p .1)))
+    to (inr h) =
+        let p = both-true (is-falling a) (is-rising b) h in
+        inr (falling-cells a n (row-line (a .c3) (a .c7) (a .c1) (a .c5) (p .0)), rising-cells b k (row-line (b .c1) (b .c5) (b .c3) (b .c7) (p .1)))
+
+    from : OpposedRows (In a) (In b) → ((is-rising a && is-falling b) ≡ true) ⊎ ((is-falling a && is-rising b) ≡ true)
+    from (inl r) =
+        inl (and-true (line-row (a .c1) (a .c5) (a .c3) (a .c7) (cells-rising a n (r .0))) (line-row (b .c3) (b .c7) (b .c1) (b .c5) (cells-falling b k (r .1))))
+    from (inr r) =
+        inr (and-true (line-row (a .c3) (a .c7) (a .c1) (a .c5) (cells-falling a n (r .0))) (line-row (b .c1) (b .c5) (b .c3) (b .c7) (cells-rising b k (r .1))))
+
+-- bounds that the test does not call opposed are not
+opposed-true : (a b : Octagon) → Opposed a b → (is-rising a && is-falling b) ≡ true
+unfolding is-rising is-falling
+opposed-true a b o =
+    and-true (line-row (a .c1) (a .c5) (a .c3) (a .c7) (record { one-line = o .a15; many = o .a37 }))
+    (line-row (b .c3) (b .c7) (b .c1) (b .c5) (record { one-line = o .e37; many = o .e15 }))
+
+and-comm : (a b : Bool) → (a && b) ≡ true → (b && a) ≡ true
+and-comm a b h = let p = both-true a b h in and-true (p .1) (p .0)
+
+pub not-opposed : (a b : Octagon) → are-opposed a b ≡ false → ¬ (Opposed a b)
+unfolding are-opposed
+not-opposed a b h o = true-is-not-false (sym (either-or (is-rising a && is-falling b) (is-falling a && is-rising b) (inl (opposed-true a b o))) ∙ h)
+
+pub not-opposed′ : (a b : Octagon) → are-opposed a b ≡ false → ¬ (Opposed b a)
+unfolding are-opposed
+not-opposed′ a b h o = true-is-not-false (sym (either-or (is-rising a && is-falling b) (is-falling a && is-rising b) (inr (and-comm (is-rising b) (is-falling a) (opposed-true b a o)))) ∙ h)

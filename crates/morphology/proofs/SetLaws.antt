@@ -1,0 +1,105 @@
+-- Laws of dilation and erosion on sets of cells. Assumes nothing.
+use mathlib.Core.Path.{_≡_, refl}
+use mathlib.Core.Logic.{_↔_}
+use lib.IntN.{ℤ, _+ℤ_, +ℤ-assoc, +ℤ-comm}
+use Rattle.octagon.specs.Cells.{Cells, _⊆_, _≐_, Empty, Some, LeavesMap}
+use Rattle.morphology.specs.Sets.{Dilated, Eroded}
+
+-- ---- sets with the same cells
+
+pub same-refl : (A : Cells) → A ≐ A
+same-refl A x y = (λ a. a, λ a. a)
+
+pub same-sym : {A B : Cells} → A ≐ B → B ≐ A
+same-sym e x y = (e x y .1, e x y .0)
+
+pub same-trans : {A B C : Cells} → A ≐ B → B ≐ C → A ≐ C
+same-trans e f x y = (λ a. f x y .0 (e x y .0 a), λ c. e x y .1 (f x y .1 c))
+
+pub same-empty : {A B : Cells} → A ≐ B → Empty A → Empty B
+same-empty e h x y b = h x y (e x y .1 b)
+
+unfoldable pub same-some : {A B : Cells} → A ≐ B → Some A → Some B
+same-some e s = record { x = s .x; y = s .y; cell = e (s .x) (s .y) .0 (s .cell) }
+
+pub leaves-same : {A B : Cells} → A ≐ B → LeavesMap A → LeavesMap B
+leaves-same e l = record { x = l .x; y = l .y; cell = (e (l .x) (l .y) .0 (l .cell .0), l .cell .1) }
+
+-- ---- larger sets
+
+pub dilated-mono : {A B C D : Cells} → A ⊆ C → B ⊆ D → Dilated A B ⊆ Dilated C D
+dilated-mono f g x y d = record {
+  ax = d .ax;
+  ay = d .ay;
+  bx = d .bx;
+  by = d .by;
+  of-a = f (d .ax) (d .ay) (d .of-a);
+  of-b = g (d .bx) (d .by) (d .of-b);
+  sum-x = d .sum-x;
+  sum-y = d .sum-y;
+}
+
+pub eroded-mono : {A B C D : Cells} → A ⊆ C → D ⊆ B → Eroded A B ⊆ Eroded C D
+eroded-mono f g x y e v w d = f (x +ℤ v) (y +ℤ w) (e v w (g v w d))
+
+pub dilated-same : {A B C D : Cells} → A ≐ C → B ≐ D → Dilated A B ≐ Dilated C D
+dilated-same {A} {B} {C} {D} e f x y = (
+  dilated-mono {A = A} {B = B} {C = C} {D = D} (λ x y. e x y .0) (λ x y. f x y .0) x y,
+  dilated-mono {A = C} {B = D} {C = A} {D = B} (λ x y. e x y .1) (λ x y. f x y .1) x y,
+)
+
+pub eroded-same : {A B C D : Cells} → A ≐ C → B ≐ D → Eroded A B ≐ Eroded C D
+eroded-same {A} {B} {C} {D} e f x y = (
+  eroded-mono {A = A} {B = B} {C = C} {D = D} (λ x y. e x y .0) (λ x y. f x y .1) x y,
+  eroded-mono {A = C} {B = D} {C = A} {D = B} (λ x y. e x y .1) (λ x y. f x y .0) x y,
+)
+
+-- ---- the two operations together
+
+-- dilation does not depend on the order
+pub dilated-comm : (A B : Cells) → Dilated A B ≐ Dilated B A
+dilated-comm A B x y = (turn A B, turn B A)
+  where
+    turn : (A B : Cells) → Dilated A B x y → Dilated B A x y
+    turn A B d = record {
+      ax = d .bx;
+      ay = d .by;
+      bx = d .ax;
+      by = d .ay;
+      of-a = d .of-b;
+      of-b = d .of-a;
+      sum-x = rw (+ℤ-comm (d .bx) (d .ax)) (d .sum-x);
+      sum-y = rw (+ℤ-comm (d .by) (d .ay)) (d .sum-y);
+    }
+
+-- x + (v + w) as a sum of x + w and v
+regroup : (x v w : ℤ) → (x +ℤ w) +ℤ v ≡ x +ℤ (v +ℤ w)
+regroup x v w = rw (+ℤ-assoc x w v, +ℤ-comm w v) refl
+
+-- eroding twice is eroding once by the dilation of the two
+pub eroded-twice : (A B C : Cells) → Eroded (Eroded A B) C ≐ Eroded A (Dilated B C)
+eroded-twice A B C x y = (to, from)
+  where
+    to : Eroded (Eroded A B) C x y → Eroded A (Dilated B C) x y
+    to e v w d =
+        rw (← d .sum-x, ← d .sum-y, ← regroup x (d .ax) (d .bx), ← regroup y (d .ay) (d .by))
+        (e (d .bx) (d .by) (d .of-b) (d .ax) (d .ay) (d .of-a))
+
+    from : Eroded A (Dilated B C) x y → Eroded (Eroded A B) C x y
+    from e v w c p q b =
+        rw (regroup x p v, regroup y q w)
+        (e (p +ℤ v) (q +ℤ w) (record { ax = p; ay = q; bx = v; by = w; of-a = b; of-b = c; sum-x = refl; sum-y = refl }))
+
+-- the dilation of X by B lies in A exactly where X lies in the erosion of A by B
+pub adjunction : (X A B : Cells) → (Dilated X B ⊆ A) ↔ (X ⊆ Eroded A B)
+adjunction X A B = (to, from)
+  where
+    to : Dilated X B ⊆ A → X ⊆ Eroded A B
+    to h x y i v w b = h (x +ℤ v) (y +ℤ w) (record { ax = x; ay = y; bx = v; by = w; of-a = i; of-b = b; sum-x = refl; sum-y = refl })
+
+    from : X ⊆ Eroded A B → Dilated X B ⊆ A
+    from h x y d = rw (← d .sum-x, ← d .sum-y) (h (d .ax) (d .ay) (d .of-a) (d .bx) (d .by) (d .of-b))
+
+-- what is left of nothing is nothing
+pub eroded-empty : (A B : Cells) → Empty A → Some B → Empty (Eroded A B)
+eroded-empty A B h s x y e = h (x +ℤ s .x) (y +ℤ s .y) (e (s .x) (s .y) (s .cell))

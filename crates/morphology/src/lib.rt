@@ -1,0 +1,1 @@
+// Dilation, erosion and opening of octagons.
