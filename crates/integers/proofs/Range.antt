@@ -1,7 +1,7 @@
 -- When a sum of a few signed numbers fits its width: rules that `search signs` applies backwards, from the sum to its terms.
 -- Assumes nothing.
 use mathlib.Core.Path.{_≡_, sym, _∙_}
-use mathlib.Core.Bool.{Bool, _&&_}
+use mathlib.Core.Bool.{Bool, _&&_, _||_}
 use Prim.Native.Nat.{ℕ, zero, suc, _^_, _<_, _≤_}
 use native.Mathlib.Omega.{arith}
 use lib.Dec.{T, leb, leb→le}
@@ -139,3 +139,6 @@ told p q = sym q ∙ p
 
 pub and-is : {a b x y : Bool} → a ≡ x → b ≡ y → (a && b) ≡ (x && y)
 and-is p q = rw (p, q)
+
+pub or-is : {a b x y : Bool} → a ≡ x → b ≡ y → (a || b) ≡ (x || y)
+or-is p q = rw (p, q)

@@ -17,7 +17,7 @@ use Rattle.octagon.proofs.Map.{test-near, near-cells, far-cell}
 use Rattle.morphology.specs.Sets.{Dilated, Two, Rising, Falling, OpposedRows}
 use Rattle.morphology.specs.Operations.{sums, are-opposed, opposed-rows, dilation}
 use Rattle.morphology.proofs.Sums.{summed, summed-normal, sums-exact}
-use Rattle.morphology.proofs.Rows.{opposed-rows-test, not-opposed, not-opposed′}
+use Rattle.morphology.proofs.DiagonalRows.{opposed-rows-test, not-opposed, not-opposed′}
 use Rattle.morphology.proofs.Holes.{no-octagon}
 use Rattle.morphology.proofs.SetLaws.{same-sym, same-trans, same-some, leaves-same, dilated-same}
 use Rattle.morphology.proofs.Operands.{Operand, operand, Valid, clash, no-other, Called, first-refused, second-refused, both-accepted, called}

@@ -10,7 +10,7 @@ use Rattle.octagon.specs.Cells.{_≐_, In}
 use Rattle.octagon.proofs.Within.{Within, Normal, within, cell-in}
 use Rattle.octagon.proofs.Vertices.{vertex-12, vertex-34, vertex-56, vertex-70}
 use Rattle.morphology.specs.Sets.{Dilated, OpposedRows}
-use Rattle.morphology.proofs.Rows.{Line, cells-rising, cells-falling}
+use Rattle.morphology.proofs.DiagonalRows.{Line, cells-rising, cells-falling}
 use Rattle.morphology.proofs.SetLaws.{same-trans, dilated-comm}
 
 -- four cells round one, as the corners of a square stood on its point

@@ -2,7 +2,7 @@
 pub mod Meet
 pub mod Sums
 pub mod Differences
-pub mod Rows
+pub mod DiagonalRows
 pub mod SetLaws
 pub mod Holes
 pub mod Operands
@@ -11,3 +11,4 @@ pub mod Erosions
 pub mod Openings
 pub mod Decided
 pub mod Laws
+pub mod Calls

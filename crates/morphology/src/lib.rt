@@ -1,1 +1,63 @@
-// Dilation, erosion and opening of octagons.
+// Dilation, erosion and opening of octagons (document 01's spread, trim and opening).
+//
+// Each call takes any eight bounds for each operand and answers in constant time. specs/Operations.antt has the answers,
+// specs/Sets.antt the operations on sets, proofs/Dilations, Erosions, Openings and Laws the theorems between them.
+ghost use mathlib.Core.Path.{_≡_};
+ghost use Rattle.octagon.specs.Answers.{outcome};
+ghost use Rattle.morphology.specs.Operations as operations;
+
+mod bounds;
+mod rows;
+
+use octagon::Answer;
+use octagon::Octagon;
+use octagon::normalise;
+
+// The refusal numbers of document 01 that this crate gives.
+pub const OPPOSED_ROWS: u32 = 4;
+
+pub const NOTHING_LEFT: u32 = 5;
+
+// Every sum of a cell of the plot and a cell of the element (document 01's spread).
+pub fn dilate(plot: Octagon, element: Octagon) -> Answer
+    ensures { λ r. ⌜ outcome r ≡ operations.dilation plot element ⌝ }
+{
+    let first = normalise(plot);
+    let Answer::Octagon(a) = first else {
+        return first;
+    };
+    let second = normalise(element);
+    let Answer::Octagon(b) = second else {
+        return second;
+    };
+    if rows::are_opposed(a, b) {
+        return Answer::Refused(OPPOSED_ROWS);
+    }
+    octagon::place(bounds::sums(a, b))
+}
+
+// The positions at which the whole element stands inside the plot (document 01's trim).
+pub fn erode(plot: Octagon, element: Octagon) -> Answer
+    ensures { λ r. ⌜ outcome r ≡ operations.erosion plot element ⌝ }
+{
+    let first = normalise(plot);
+    let Answer::Octagon(a) = first else {
+        return first;
+    };
+    let second = normalise(element);
+    let Answer::Octagon(b) = second else {
+        return second;
+    };
+    bounds::fit(bounds::differences(a, b))
+}
+
+// The erosion, and where that is accepted the dilation of what it left.
+pub fn opening(plot: Octagon, element: Octagon) -> Answer
+    ensures { λ r. ⌜ outcome r ≡ operations.opened plot element ⌝ }
+{
+    let eroded = erode(plot, element);
+    let Answer::Octagon(left) = eroded else {
+        return eroded;
+    };
+    dilate(left, element)
+}

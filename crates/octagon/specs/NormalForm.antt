@@ -87,9 +87,12 @@ has-cell c =
 abbrev pub within-limit : ℤ → Bool
 within-limit z = leZ z (pos limit)
 
+abbrev pub are-within-limit : ℤ → ℤ → ℤ → ℤ → Bool
+are-within-limit c0 c2 c4 c6 = within-limit c0 && within-limit c2 && within-limit c4 && within-limit c6
+
 -- normalised bounds are on the map where the even ones are within the limit
 unfoldable pub is-on-map : Octagon → Bool
-is-on-map c = within-limit (c .c0) && within-limit (c .c2) && within-limit (c .c4) && within-limit (c .c6)
+is-on-map c = are-within-limit (c .c0) (c .c2) (c .c4) (c .c6)
 
 -- normalised bounds, refused where they leave the map
 unfoldable pub placed : Octagon → Outcome Octagon

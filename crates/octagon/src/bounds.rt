@@ -125,11 +125,11 @@ fn within_limit(c: i64) -> bool
     c <= Octagon::LIMIT as i64
 }
 
-// Whether normalised bounds are on the map.
-fn on_map(b: Bounds) -> bool
-    ensures { λ r. ⌜ r ≡ form.is-on-map («octagon-of» b) ⌝ }
+// Whether normalised bounds are on the map, by the even ones.
+pub fn on_map(c0: i64, c2: i64, c4: i64, c6: i64) -> bool
+    ensures { λ r. ⌜ r ≡ form.are-within-limit c0 c2 c4 c6 ⌝ }
 {
-    within_limit(b.c0) & within_limit(b.c2) & within_limit(b.c4) & within_limit(b.c6)
+    within_limit(c0) & within_limit(c2) & within_limit(c4) & within_limit(c6)
 }
 
 // The same bounds in 32 bits.
@@ -154,7 +154,7 @@ pub fn placed(b: Bounds) -> Answer
     requires { ⌜ (form.is-on-map («octagon-of» b) ≡ true → Held w32 («octagon-of» b)) ⌝ }
     ensures { λ r. ⌜ outcome r ≡ form.placed («octagon-of» b) ⌝ }
 {
-    if on_map(b) {
+    if on_map(b.c0, b.c2, b.c4, b.c6) {
         return Answer::Octagon(narrow(b));
     }
     Answer::Refused(OFF_MAP)

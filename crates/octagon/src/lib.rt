@@ -3,7 +3,7 @@
 // The cells of an octagon are those with -y <= c0, x-y <= c1, x <= c2, x+y <= c3, y <= c4, -x+y <= c5, -x <= c6, -x-y <= c7.
 // specs/Cells.antt has the sets, specs/NormalForm.antt what `normalise` answers, proofs/Normalising.antt the theorems between them.
 ghost use mathlib.Core.Path.{_≡_};
-ghost use Rattle.octagon.specs.NormalForm.{normalised};
+ghost use Rattle.octagon.specs.NormalForm as form;
 ghost use Rattle.octagon.specs.Answers.{outcome};
 
 mod bounds;
@@ -65,11 +65,21 @@ pub const OFF_MAP: u32 = 2;
 
 // The normal form of any eight bounds: the same cells, each bound reached. Refuses bounds with no cell, then those with a cell off the map.
 pub fn normalise(o: Octagon) -> Answer
-    ensures { λ r. ⌜ outcome r ≡ normalised o ⌝ }
+    ensures { λ r. ⌜ outcome r ≡ form.normalised o ⌝ }
 {
     let b = bounds::tighten_odd(bounds::tighten_even(o));
     if bounds::has_cell(b) {
         return bounds::placed(b);
     }
     Answer::Refused(NO_CELL)
+}
+
+// Normalised bounds as an answer: refused where they leave the map.
+pub fn place(o: Octagon) -> Answer
+    ensures { λ r. ⌜ outcome r ≡ form.placed o ⌝ }
+{
+    if bounds::on_map(o.c0 as i64, o.c2 as i64, o.c4 as i64, o.c6 as i64) {
+        return Answer::Octagon(o);
+    }
+    Answer::Refused(OFF_MAP)
 }

@@ -1,0 +1,76 @@
+// Sums and differences of bounds, and the normal form of differences.
+ghost use mathlib.Core.Path.{_≡_};
+ghost use lib.IntN.{_+ℤ_, _-ℤ_};
+ghost use mir.Syntax.{w32};
+ghost use mir.Val.{SFits};
+ghost use Rattle.octagon.specs.Answers.{outcome};
+ghost use Rattle.octagon.specs.NormalForm.{normalised};
+ghost use Rattle.octagon.specs.Widths.{Held};
+ghost use Rattle.morphology.specs.Operations as operations;
+use crate::NOTHING_LEFT;
+use octagon::Answer;
+use octagon::NO_CELL;
+use octagon::Octagon;
+use octagon::normalise;
+
+fn add(a: i32, b: i32) -> i32
+    requires { ⌜ SFits w32 (a +ℤ b) ⌝ }
+    ensures { λ r. ⌜ r ≡ a +ℤ b ⌝ }
+{
+    a + b
+}
+
+fn subtract(a: i32, b: i32) -> i32
+    requires { ⌜ SFits w32 (a -ℤ b) ⌝ }
+    ensures { λ r. ⌜ r ≡ a -ℤ b ⌝ }
+{
+    a - b
+}
+
+// The sums of two octagons' bounds.
+pub fn sums(a: Octagon, b: Octagon) -> Octagon
+    requires { ⌜ Held w32 (operations.sums a b) ⌝ }
+    ensures { λ r. ⌜ r ≡ operations.sums a b ⌝ }
+{
+    Octagon {
+        c0: add(a.c0, b.c0),
+        c1: add(a.c1, b.c1),
+        c2: add(a.c2, b.c2),
+        c3: add(a.c3, b.c3),
+        c4: add(a.c4, b.c4),
+        c5: add(a.c5, b.c5),
+        c6: add(a.c6, b.c6),
+        c7: add(a.c7, b.c7),
+    }
+}
+
+// The differences of two octagons' bounds.
+pub fn differences(a: Octagon, b: Octagon) -> Octagon
+    requires { ⌜ Held w32 (operations.differences a b) ⌝ }
+    ensures { λ r. ⌜ r ≡ operations.differences a b ⌝ }
+{
+    Octagon {
+        c0: subtract(a.c0, b.c0),
+        c1: subtract(a.c1, b.c1),
+        c2: subtract(a.c2, b.c2),
+        c3: subtract(a.c3, b.c3),
+        c4: subtract(a.c4, b.c4),
+        c5: subtract(a.c5, b.c5),
+        c6: subtract(a.c6, b.c6),
+        c7: subtract(a.c7, b.c7),
+    }
+}
+
+// The normal form of differences of bounds: where they hold no cell, no position fits.
+pub fn fit(d: Octagon) -> Answer
+    ensures { λ r. ⌜ outcome r ≡ operations.fitting (normalised d) ⌝ }
+{
+    let left = normalise(d);
+    let Answer::Refused(number) = left else {
+        return left;
+    };
+    if number == NO_CELL {
+        return Answer::Refused(NOTHING_LEFT);
+    }
+    left
+}
