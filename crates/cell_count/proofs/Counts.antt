@@ -6,10 +6,10 @@ use Prim.Native.Nat.{ℕ, _+_, _-_, _*_, _<_, _≤_}
 use native.Mathlib.Omega.{arith}
 use lib.IntN.{ℤ, pos}
 use Rattle.integers.proofs.Parts.{up, dn, diff-parts, neg-up, neg-dn, le-parts, parts-eq}
-use Rattle.integers.proofs.Linear.{Diff, #, _⊕_, neg, lit, _≼_, _≈_}
+use Rattle.integers.proofs.Linear.{#, _⊕_, neg, lit, _≼_, _≈_}
 use Rattle.integers.proofs.Tests.{cases}
 use Rattle.cell_count.specs.Count.{Test, either, both, without, sum, one, at, row, count, Square}
-use Rattle.cell_count.proofs.Sums.{sum-ext, sum-le, sum-add, sum-zero, sum-window}
+use Rattle.cell_count.proofs.Sums.{sum-ext, sum-le, sum-add, sum-zero, sum-term, sum-window}
 
 -- the integer at a place, as a linear fact
 pub at-parts : (r i : ℕ) → # (at r i) ≈ lit i ⊕ neg (lit r)
@@ -95,7 +95,7 @@ count-lost r p q h = omega (arith, count-without r p q, count-same r {p = both p
     go true false k = refl
     go false false k = refl
 
--- ---- a larger square
+-- ---- squares
 
 -- x is one of the integers from -r to r
 record Near (r : ℕ) (x : ℤ) : Type 0 where
@@ -105,6 +105,26 @@ record Near (r : ℕ) (x : ℤ) : Type 0 where
 near-both : {r : ℕ} {x y : ℤ} → Square r x y → Near r x × Near r y
 unfolding up dn
 near-both {r} {x} {y} s = omega (arith, le-parts, neg-up (pos r), neg-dn (pos r))
+
+-- the place of an integer from -r to r
+place : (r : ℕ) (x : ℤ) → Near r x → (i : ℕ) × (i < 2 * r + 1) × (at r i ≡ x)
+place r x n =
+    let i : ℕ = (up x + r) - dn x in
+    (i, omega arith, parts-eq (at r i) x (omega (arith, at-parts r i)))
+
+-- a test that some cell of the square passes counts one at least
+pub count-some : (r : ℕ) (p : Test) (x y : ℤ) → Square r x y → p x y ≡ true → 1 ≤ count r p
+unfolding count row one
+count-some r p x y s e =
+    let i = place r x (near-both s .0) in
+    let j = place r y (near-both s .1) in
+    go (i .0) (j .0) (i .1) (j .1) (rw (i .2, j .2) e)
+  where
+    n : ℕ
+    n = 2 * r + 1
+
+    go : (i j : ℕ) → i < n → j < n → p (at r i) (at r j) ≡ true → 1 ≤ sum n (λ k. row r (λ u. p u (at r k)))
+    go i j h k t = omega (arith, sum-term n j (λ k. row r (λ u. p u (at r k))) k, sum-term n i (λ k. one (p (at r k) (at r j))) h, ap one t)
 
 -- a test that only cells of the square of radius r pass has the same count in every larger square
 pub count-wider : (r s : ℕ) (p : Test) → r ≤ s → ((x y : ℤ) → p x y ≡ true → Square r x y) → count s p ≡ count r p

@@ -1,18 +1,17 @@
 -- The cells of an octagon whose sides are nought or more: with those of the four corners they are the rectangle round it.
 -- Assumes nothing.
-use mathlib.Core.Path.{_≡_, refl, ap}
-use mathlib.Core.Bool.{Bool, true, false}
-use Prim.Native.Nat.{ℕ, suc, _+_, _-_, _*_, _<_, _≤_}
+use mathlib.Core.Path.{_≡_, ap}
+use Prim.Native.Nat.{ℕ, suc, _+_, _*_}
 use native.Mathlib.Omega.{arith}
 use lib.IntN.{ℤ, pos, negsuc, _+ℤ_, _-ℤ_, natAbs}
 use Rattle.integers.proofs.Parts.{up, dn, sum-parts, diff-parts}
-use Rattle.integers.proofs.Linear.{Diff, #, _⊕_, neg, lit, _≼_, _≈_}
+use Rattle.integers.proofs.Linear.{#, _⊕_, lit, _≼_, _≈_}
 use Rattle.octagon.specs.declared.Octagon.{Octagon}
 use Rattle.octagon.specs.NormalForm.{odd-side}
 use Rattle.octagon.proofs.Within.{Within, Normal, within, cell-in}
 use Rattle.octagon.proofs.Sides.{odd-is}
-use Rattle.cell_count.specs.Count.{sum, one, at, row, count, inside}
-use Rattle.cell_count.specs.Area.{extent, rectangle, corner, corners}
+use Rattle.cell_count.specs.Count.{one, at, row, count, inside}
+use Rattle.cell_count.specs.Area.{extent, rectangle, corners}
 use Rattle.cell_count.proofs.Sums.{sum-zero, sum-window}
 use Rattle.cell_count.proofs.Counts.{at-parts}
 use Rattle.cell_count.proofs.Inside.{inside-is, outside}
@@ -21,18 +20,19 @@ use Rattle.cell_count.proofs.Rows.{Plan, Apart, Cell, cut, cut-off, row
 -- ---- lengths
 
 -- an integer of nought or more, as a natural number
-pub natural : (z : ℤ) → lit 0 ≼ # z → lit (natAbs z) ≈ # z
+natural : (z : ℤ) → lit 0 ≼ # z → lit (natAbs z) ≈ # z
 unfolding up dn
 natural (pos n) h = omega arith
 natural (negsuc n) h = absurd (omega arith)
 
-pub extent-is : (l h : ℤ) → lit 0 ≼ # l ⊕ # h ⊕ lit 1 → lit (extent l h) ≈ # l ⊕ # h ⊕ lit 1
+pub extent-parts : (l h : ℤ) → # (l +ℤ h +ℤ pos 1) ≈ # l ⊕ # h ⊕ lit 1
 unfolding up dn
-extent-is l h k =
-    let e : # (l +ℤ h +ℤ pos 1) ≈ # l ⊕ # h ⊕ lit 1 = omega (arith, sum-parts (l +ℤ h) (pos 1), sum-parts l h) in
-    omega (arith, natural (l +ℤ h +ℤ pos 1) (omega arith))
+extent-parts l h = omega (arith, sum-parts (l +ℤ h) (pos 1), sum-parts l h)
 
-pub side-is : (b o a : ℤ) → # o ≼ # b ⊕ # a → lit (natAbs (odd-side b o a)) ⊕ # o ≈ # b ⊕ # a
+extent-is : (l h : ℤ) → lit 0 ≼ # l ⊕ # h ⊕ lit 1 → lit (extent l h) ≈ # l ⊕ # h ⊕ lit 1
+extent-is l h k = omega (arith, extent-parts l h, natural (l +ℤ h +ℤ pos 1) (omega (arith, extent-parts l h)))
+
+side-is : (b o a : ℤ) → # o ≼ # b ⊕ # a → lit (natAbs (odd-side b o a)) ⊕ # o ≈ # b ⊕ # a
 side-is b o a h = omega (arith, odd-is b o a, natural (odd-side b o a) (omega (arith, odd-is b o a)))
 
 -- how far a bound is from the edge of the square

@@ -7,7 +7,7 @@ use lib.Signed.{leZ, _≤ℤ_}
 use Rattle.integers.proofs.Tests.{T-true, true-T, true-is-not-false, both-true, and-true, cases}
 use Rattle.octagon.specs.declared.Octagon.{Octagon}
 use Rattle.octagon.specs.Cells.{_⊆_, _≐_, In}
-use Rattle.cell_count.specs.Count.{Test, inside}
+use Rattle.cell_count.specs.Count.{inside}
 
 test-le : (a b : ℤ) → leZ a b ≡ true → a ≤ℤ b
 test-le a b h = record { le = true-T h }

@@ -1,12 +1,12 @@
 -- The lengths that the formula adds and multiplies, for an octagon that is its own normal form: how large they are. Assumes nothing.
 use mathlib.Core.Path.{_≡_}
-use Prim.Native.Nat.{ℕ, _+_, _*_, _^_, _/_, _<_, _≤_}
+use Prim.Native.Nat.{ℕ, _+_, _*_, _≤_}
 use native.Mathlib.Nat.{mul-le-mul}
 use native.Mathlib.Omega.{arith}
 use lib.Dec.{T}
 use lib.IntN.{ℤ, pos, negsuc, _+ℤ_, natAbs}
-use lib.Signed.{_≤ℤ_, nonNeg}
-use Rattle.integers.proofs.Parts.{up, dn, sum-parts, le-parts, parts-le}
+use lib.Signed.{nonNeg}
+use Rattle.integers.proofs.Parts.{up, dn, le-parts, parts-le}
 use Rattle.integers.proofs.Linear.{Diff, #, _⊕_, neg, lit, _≼_, _≈_}
 use Rattle.octagon.specs.declared.Octagon.{Octagon}
 use Rattle.octagon.specs.Outcome.{accepted}
@@ -17,8 +17,8 @@ use Rattle.octagon.proofs.Sides.{odd-is}
 use Rattle.octagon.proofs.Vertices.{reached-normal}
 use Rattle.octagon.proofs.Map.{cells-near}
 use Rattle.octagon.proofs.NormalForms.{accepted-means}
-use Rattle.cell_count.specs.Area.{triangle, extent, rectangle, corner, corners, area, Length}
-use Rattle.cell_count.proofs.Formula.{Fits, cells-and-corners}
+use Rattle.cell_count.specs.Area.{triangle, extent, rectangle, corner, corners, Length}
+use Rattle.cell_count.proofs.Formula.{Fits, extent-parts, cells-and-corners}
 
 -- ---- an accepted octagon
 
@@ -34,6 +34,7 @@ near-fits r a h n = omega arith
 
 -- ---- lengths
 
+-- a length that is equal to a difference
 length-is : {z : ℤ} (d : Diff) → # z ≈ d → lit 0 ≼ d → d ≼ lit (2 * limit + 1) → Length z
 unfolding up dn
 length-is {z} d e l m = record {
@@ -63,10 +64,6 @@ pub record Lengths (a : Octagon) : Type 0 where
   pub side5 : Length (odd-side (a .c4) (a .c5) (a .c6))
   pub side7 : Length (odd-side (a .c6) (a .c7) (a .c0))
 
-extent-parts : (l h : ℤ) → # (l +ℤ h +ℤ pos 1) ≈ # l ⊕ # h ⊕ lit 1
-unfolding up dn
-extent-parts l h = omega (arith, sum-parts (l +ℤ h) (pos 1), sum-parts l h)
-
 pub lengths : (a : Octagon) → normalised a ≡ accepted a → Lengths a
 lengths a e =
     let n = accepted-normal a a e in
@@ -82,17 +79,20 @@ lengths a e =
 
 -- ---- products
 
-pub product-most : (m n : ℕ) → m ≤ 2 * limit + 1 → n ≤ 2 * limit + 2 → m * n ≤ (2 * limit + 1) * (2 * limit + 2)
+-- the map's cells and one column more: no product or corner is larger
+abbrev pub greatest : ℕ
+greatest = (2 * limit + 1) * (2 * limit + 2)
+
+pub product-most : (m n : ℕ) → m ≤ 2 * limit + 1 → n ≤ 2 * limit + 2 → m * n ≤ greatest
 product-most m n h k = mul-le-mul {n₁ = m} {m₁ = n} {n₂ = 2 * limit + 1} {m₂ = 2 * limit + 2} h k
 
--- each corner is less than that
 pub record Small (a : Octagon) : Type 0 where
-  pub small1 : corner (a .c0) (a .c1) (a .c2) ≤ (2 * limit + 1) * (2 * limit + 2)
-  pub small3 : corner (a .c2) (a .c3) (a .c4) ≤ (2 * limit + 1) * (2 * limit + 2)
-  pub small5 : corner (a .c4) (a .c5) (a .c6) ≤ (2 * limit + 1) * (2 * limit + 2)
-  pub small7 : corner (a .c6) (a .c7) (a .c0) ≤ (2 * limit + 1) * (2 * limit + 2)
+  pub small1 : corner (a .c0) (a .c1) (a .c2) ≤ greatest
+  pub small3 : corner (a .c2) (a .c3) (a .c4) ≤ greatest
+  pub small5 : corner (a .c4) (a .c5) (a .c6) ≤ greatest
+  pub small7 : corner (a .c6) (a .c7) (a .c0) ≤ greatest
 
-corner-most : (b o a : ℤ) → Length (odd-side b o a) → corner b o a ≤ (2 * limit + 1) * (2 * limit + 2)
+corner-most : (b o a : ℤ) → Length (odd-side b o a) → corner b o a ≤ greatest
 unfolding triangle
 corner-most b o a h =
     let n : ℕ = natAbs (odd-side b o a) in
@@ -107,10 +107,11 @@ small a l = record {
   small7 = corner-most (a .c6) (a .c7) (a .c0) (l .side7);
 }
 
-pub rectangle-most : (a : Octagon) → Lengths a → rectangle a ≤ (2 * limit + 1) * (2 * limit + 2)
+pub rectangle-most : (a : Octagon) → Lengths a → rectangle a ≤ greatest
 unfolding rectangle
 rectangle-most a l =
-    product-most (extent (a .c0) (a .c4)) (extent (a .c6) (a .c2)) (length-most _ (l .height)) (omega (arith, length-most (a .c6 +ℤ a .c2 +ℤ pos 1) (l .width)))
+    product-most (extent (a .c0) (a .c4)) (extent (a .c6) (a .c2)) (length-most _ (l .height))
+    (omega (arith, length-most (a .c6 +ℤ a .c2 +ℤ pos 1) (l .width)))
 
 -- the corners are within the rectangle
 pub corners-most : (a : Octagon) → normalised a ≡ accepted a → corners a ≤ rectangle a

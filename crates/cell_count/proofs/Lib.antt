@@ -6,3 +6,5 @@ pub mod Triangles
 pub mod Rows
 pub mod Formula
 pub mod Lengths
+pub mod Counted
+pub mod Examples

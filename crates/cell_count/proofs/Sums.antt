@@ -1,8 +1,9 @@
 -- Laws of finite sums. Assumes nothing.
 use mathlib.Core.Path.{_≡_, refl, ap}
-use mathlib.Core.Bool.{Bool, true, false}
+use mathlib.Core.Bool.{Bool, true}
 use Prim.Native.Nat.{ℕ, zero, suc, _+_, _-_, _*_, _<_, _≤_}
 use native.Mathlib.Nat.{add-suc, add-zero, zero-mul, suc-mul}
+use native.Mathlib.Decide.{ℕ-discrete}
 use native.Mathlib.Omega.{arith}
 use Rattle.integers.proofs.Tests.{cases}
 use Rattle.cell_count.specs.Count.{sum, one}
@@ -34,6 +35,16 @@ pub sum-zero : (n : ℕ) {f : ℕ → ℕ} → ((i : ℕ) → i < n → f i ≡ 
 unfolding sum
 sum-zero zero h = refl
 sum-zero (suc n) h = omega (arith, sum-zero n (λ i k. h i (omega arith)), h n (omega arith))
+
+-- one of the terms
+pub sum-term : (n i : ℕ) (f : ℕ → ℕ) → i < n → f i ≤ sum n f
+unfolding sum
+sum-term zero i f h = absurd (omega arith)
+sum-term (suc n) i f h = go (sum-term n i f) (ℕ-discrete i n)
+  where
+    go : (i < n → f i ≤ sum n f) → Dec (i ≡ n) → f i ≤ sum n f + f n
+    go k (yes e) = omega (arith, ap f e)
+    go k (no e) = omega (arith, k (omega arith))
 
 -- the first m terms and the n after them
 pub sum-split : (m n : ℕ) (f : ℕ → ℕ) → sum (m + n) f ≡ sum m f + sum n (λ i. f (m + i))

@@ -1,6 +1,6 @@
 -- The triangular numbers are the sums of numbers that fall, or rise, by one from row to row. Assumes nothing.
 use mathlib.Core.Path.{_≡_, refl, ap}
-use Prim.Native.Nat.{ℕ, zero, suc, _+_, _-_, _*_, _/_, _<_, _≤_}
+use Prim.Native.Nat.{ℕ, zero, suc, _+_, _-_, _*_, _≤_}
 use native.Mathlib.Nat.{zero-mul, suc-mul, mul-suc}
 use native.Mathlib.Omega.{arith}
 use Rattle.cell_count.specs.Count.{sum}

@@ -13,7 +13,7 @@ use octagon::Answer;
 use octagon::Octagon;
 use octagon::normalise;
 
-// The number of cells, or the number of the refusal.
+// Document 01's cell count: the number of cells, or the number of the refusal.
 pub enum Count {
     Cells(u32),
     Refused(u32),
@@ -83,7 +83,7 @@ fn area(a: Octagon) -> u32
     (rectangle(a) - corners(a)) as u32
 }
 
-// Document 01's cell count of any eight bounds. Refuses as `normalise` does.
+// The number of cells within any eight bounds. Refuses as `normalise` does.
 pub fn count_cells(o: Octagon) -> Count
     ensures { λ r. ⌜ outcome r ≡ spec.cell-count o ⌝ }
 {

@@ -1,5 +1,5 @@
 -- `area` meets its contract: the corners are within the rectangle, and the rectangle's cells fit. Assumes nothing.
-use mathlib.Core.Path.{_≡_, ap₂}
+use mathlib.Core.Path.{ap₂}
 use Prim.Native.Nat.{_-_}
 use native.Mathlib.Omega.{arith}
 use Rattle.cell_count.specs.Area.{area}

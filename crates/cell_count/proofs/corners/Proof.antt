@@ -1,10 +1,10 @@
 -- `corners` meets its contract: the sum of four corners fits. Assumes nothing.
-use mathlib.Core.Path.{_≡_, _∙_, ap, ap₂}
+use mathlib.Core.Path.{_≡_, _∙_, ap}
 use Prim.Native.Nat.{ℕ, _+_}
 use native.Mathlib.Omega.{arith}
+use borrow.Author.Needs.{needs}
 use mir.Syntax.{w32}
 use Rattle.integers.proofs.Range.{signs}
-use Rattle.octagon.specs.declared.Octagon.{Octagon}
 use Rattle.octagon.specs.Widths.{Held}
 use Rattle.octagon.proofs.Fields.{back, back-is}
 use Rattle.cell_count.specs.Area.{corner, corners}
@@ -24,15 +24,6 @@ each c = small (back w32 (c .args .a)) (sized c)
 
 total : {w x y z w' x' y' z' : ℕ} → w ≡ w' → x ≡ x' → y ≡ y' → z ≡ z' → w + x + (y + z) ≡ w' + x' + (y' + z')
 total d e f g = omega arith
-
-returns : tie.Need-returns
-unfolding corners
-returns c =
-    let k3 = c .before in
-    let k2 = k3 .before in
-    let k1 = k2 .before in
-    let s = k1 .before .before .before .before .before .before .before .before .before in
-    total (k1 .corner .ensures) (k2 .corner2 .ensures) (k3 .corner3 .ensures) (c .corner4 .ensures) ∙ ap corners (back-is w32 (s .args .a) (held s))
 
 add-result : tie.Need-add-result
 add-result c =
@@ -54,15 +45,24 @@ add-result-3 c =
     let m = each (k1 .before .before .before .before .before .before .before .before .before) in
     record { fits = omega (arith, k1 .corner .ensures, k2 .corner2 .ensures, k3 .corner3 .ensures, c .corner4 .ensures, m) }
 
+returns : tie.Need-returns
+unfolding corners
+returns c =
+    let k3 = c .before in
+    let k2 = k3 .before in
+    let k1 = k2 .before in
+    let s = k1 .before .before .before .before .before .before .before .before .before in
+    total (k1 .corner .ensures) (k2 .corner2 .ensures) (k3 .corner3 .ensures) (c .corner4 .ensures) ∙ ap corners (back-is w32 (s .args .a) (held s))
+
 pub corners-spec : {M : Type 1} → statement M
 corners-spec =
     tie.close
     (tie.spec
-    (λ c κs. sized (c .before .before .before .before .before .before .before .before) .side1)
-    (λ c κs. sized (c .before .before .before .before .before .before .before .before .before) .side3)
+    (λ c κs. let l = sized (c .before .before .before .before .before .before .before .before) in search needs)
+    (λ c κs. let l = sized (c .before .before .before .before .before .before .before .before .before) in search needs)
     add-result
-    (λ c κs. sized (c .before .before .before .before .before .before .before .before .before .before) .side5)
-    (λ c κs. sized (c .before .before .before .before .before .before .before .before .before .before .before) .side7)
+    (λ c κs. let l = sized (c .before .before .before .before .before .before .before .before .before .before) in search needs)
+    (λ c κs. let l = sized (c .before .before .before .before .before .before .before .before .before .before .before) in search needs)
     add-result-2
     add-result-3
     returns)

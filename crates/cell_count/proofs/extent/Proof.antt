@@ -1,8 +1,6 @@
 -- `extent` meets its contract: the sum of two i32 and 1 fits an i64. Assumes nothing.
 use mathlib.Core.Path.{_∙_}
-use lib.IntN.{ℤ, natAbs}
 use Rattle.integers.proofs.Range.{signs}
-use Rattle.cell_count.specs.Area.{Length}
 use Rattle.cell_count.proofs.Lengths.{length-at}
 use Rattle.cell_count.proofs.extent.Statement.{statement}
 use Rattle.cell_count.proofs.extent.Tie as tie

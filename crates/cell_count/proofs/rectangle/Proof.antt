@@ -18,7 +18,9 @@ held c = search signs
 sized : (c : tie.Start) → Lengths (back w32 (c .args .a))
 sized c = rw (back-is w32 (c .args .a) (held c)) (lengths (c .args .a) (c .pre))
 
-product : (c : tie.After-extent2) → c .before .before .before .extent .result * c .extent2 .result ≡ rectangle (back w32 (c .before .before .before .before .before .before .args .a))
+-- what the two calls give
+product : (c : tie.After-extent2) → c .before .before .before .extent .result * c .extent2 .result ≡
+    rectangle (back w32 (c .before .before .before .before .before .before .args .a))
 unfolding rectangle
 product c = ap₂ _*_ (c .before .before .before .extent .ensures) (c .extent2 .ensures)
 

@@ -1,5 +1,4 @@
 -- `unsigned` meets its contract: a length has no sign to lose. Assumes nothing.
-use mathlib.Core.Path.{_≡_}
 use native.Mathlib.Omega.{arith}
 use lib.Dec.{T}
 use lib.IntN.{ℤ, natAbs}
