@@ -1,0 +1,139 @@
+-- The cell count, in the words of document 01: the number of cells in the octagon's set, its refusals, and how the counts
+-- of two octagons compare. Assumes nothing.
+use mathlib.Core.Path.{_≡_, refl, sym, _∙_, ap}
+use mathlib.Core.Logic.{_↔_}
+use Prim.Native.Nat.{ℕ, _+_, _^_, _<_, _≤_}
+use native.Mathlib.Omega.{arith}
+use lib.IntN.{ℤ}
+use Rattle.octagon.specs.declared.Octagon.{Octagon}
+use Rattle.octagon.specs.Outcome.{Outcome, accepted, refused, then}
+use Rattle.octagon.specs.Cells.{_⊆_, _≐_, Some, In, OnMap, limit}
+use Rattle.octagon.specs.NormalForm.{normalised}
+use Rattle.octagon.proofs.Outcomes.{accepted-same, refused-same, accepted-not-refused}
+use Rattle.octagon.proofs.NormalForms.{accepted-means, accepted-when, normalised-again}
+use Rattle.cell_count.specs.Count.{without, count, inside, Square}
+use Rattle.cell_count.specs.Area.{area, cell-count}
+use Rattle.cell_count.proofs.Counts.{count-same, count-most, count-lost, count-some}
+use Rattle.cell_count.proofs.Inside.{inside-is, inside-most, inside-same}
+use Rattle.cell_count.proofs.Formula.{cells-and-corners}
+use Rattle.cell_count.proofs.Lengths.{accepted-normal, accepted-near, near-fits, lengths, rectangle-most}
+
+-- the map is the square of radius `limit`
+pub map-square : {x y : ℤ} → OnMap x y → Square limit x y
+map-square o = record { west = o .west; east = o .east; south = o .south; north = o .north }
+
+-- ---- the formula
+
+own-area : (c a : Octagon) → normalised c ≡ accepted a → (r : ℕ) → limit ≤ r → area a ≡ count r (inside a)
+unfolding area
+own-area c a e r h = omega (arith, cells-and-corners r a (accepted-normal c a e) (near-fits r a h (accepted-near c a e)))
+
+-- the formula is the number of cells within the bounds, in the map's square and in every larger one
+pub counted : (c a : Octagon) → normalised c ≡ accepted a → (r : ℕ) → limit ≤ r → area a ≡ count r (inside c)
+counted c a e r h = own-area c a e r h ∙ count-same r (inside-same a c (accepted-means c a e .same-cells))
+
+-- it fits an unsigned 32-bit number
+pub area-fits : (c a : Octagon) → normalised c ≡ accepted a → area a < 2 ^ 32
+unfolding area
+area-fits c a e = omega (arith, rectangle-most a (lengths a (normalised-again c a e)))
+
+-- it is 1 or more
+pub area-some : (c a : Octagon) → normalised c ≡ accepted a → 1 ≤ area a
+area-some c a e =
+    let m = accepted-means c a e in
+    let v = m .is-normalised .some in
+    let o = map-square (m .on-the-map (v .x) (v .y) (v .cell)) in
+    omega (
+      arith,
+      own-area c a e limit (omega arith),
+      count-some limit (inside a) (v .x) (v .y) o (inside-is a (v .x) (v .y) .1 (v .cell)),
+    )
+
+-- ---- the answer
+
+then-accepted : {A B : Type 0} (o : Outcome A) (f : A → B) (b : B) → then o (λ a. accepted (f a)) ≡ accepted b →
+    (a : A) × (o ≡ accepted a) × (f a ≡ b)
+then-accepted (accepted a) f b e = (a, refl, accepted-same e)
+then-accepted (refused k) f b e = absurd (accepted-not-refused (sym e))
+
+then-refused : {A B : Type 0} (o : Outcome A) (f : A → B) (k : ℕ) → (then o (λ a. accepted (f a)) ≡ refused k) ↔ (o ≡ refused k)
+then-refused (accepted a) f k = (λ e. absurd (accepted-not-refused e), λ e. absurd (accepted-not-refused e))
+then-refused (refused m) f k = (λ e. ap refused (refused-same e), λ e. ap refused (refused-same e))
+
+-- an accepted count is the area of the normal form
+pub count-accepted : (c : Octagon) (n : ℕ) → cell-count c ≡ accepted n → (a : Octagon) × (normalised c ≡ accepted a) × (area a ≡ n)
+unfolding cell-count
+count-accepted c n = then-accepted (normalised c) area n
+
+-- refused as `normalise` refuses, and only so
+pub count-refused : (c : Octagon) (k : ℕ) → (cell-count c ≡ refused k) ↔ (normalised c ≡ refused k)
+unfolding cell-count
+count-refused c k = then-refused (normalised c) area k
+
+-- what an accepted answer n for the bounds c says
+pub record Counted (c : Octagon) (n : ℕ) : Type 0 where
+  pub cells : (r : ℕ) → limit ≤ r → n ≡ count r (inside c)
+  pub some : 1 ≤ n
+  pub fits : n < 2 ^ 32
+
+-- accepted: the number of cells within the bounds, in the map's square and in every larger one; 1 or more, and within 32 bits
+pub count-means : (c : Octagon) (n : ℕ) → cell-count c ≡ accepted n → Counted c n
+count-means c n e =
+    let a = count-accepted c n e in
+    record {
+      cells = λ r h. sym (a .2) ∙ counted c (a .0) (a .1) r h;
+      some = omega (arith, area-some c (a .0) (a .1), a .2);
+      fits = omega (arith, area-fits c (a .0) (a .1), a .2);
+    }
+
+-- and that is so for all bounds that hold a cell and whose cells are on the map
+pub count-when : (c : Octagon) → Some (In c) → In c ⊆ OnMap → cell-count c ≡ accepted (count limit (inside c))
+unfolding cell-count
+count-when c s h =
+    let a = accepted-when c s h in
+    rw (a .1) (ap accepted (counted c (a .0) (a .1) limit (omega arith)))
+
+-- ---- two octagons
+
+module _ (c d : Octagon) (m n : ℕ) (p : cell-count c ≡ accepted m) (q : cell-count d ≡ accepted n) where
+  -- the same cells, the same count
+  pub count-equal : In c ≐ In d → m ≡ n
+  count-equal h =
+      count-means c m p .cells limit (omega arith) ∙ count-same limit (inside-same c d h)
+      ∙ sym (count-means d n q .cells limit (omega arith))
+
+  -- a subset has at most as many
+  pub count-subset : In c ⊆ In d → m ≤ n
+  count-subset h =
+      omega (
+        arith,
+        count-means c m p .cells limit (omega arith),
+        count-means d n q .cells limit (omega arith),
+        count-most limit {p = inside c} {q = inside d} (inside-most c d h),
+      )
+
+  -- and what it lacks are the cells lost
+  pub count-difference : (r : ℕ) → limit ≤ r → In c ⊆ In d → count r (without (inside d) (inside c)) + m ≡ n
+  count-difference r l h =
+      omega (
+        arith,
+        count-means c m p .cells r l,
+        count-means d n q .cells r l,
+        count-lost r (inside d) (inside c) (inside-most c d h),
+      )
+
+-- the same of the formula, for two normal forms
+module _ (c a d b : Octagon) (p : normalised c ≡ accepted a) (q : normalised d ≡ accepted b) where
+  -- the same cells, the same area
+  pub area-equal : In a ≐ In b → area a ≡ area b
+  area-equal h = own-area c a p limit (omega arith) ∙ count-same limit (inside-same a b h) ∙ sym (own-area d b q limit (omega arith))
+
+  -- a subset has at most the area
+  pub area-subset : In a ⊆ In b → area a ≤ area b
+  area-subset h =
+      omega (
+        arith,
+        own-area c a p limit (omega arith),
+        own-area d b q limit (omega arith),
+        count-most limit {p = inside a} {q = inside b} (inside-most a b h),
+      )
