@@ -1,7 +1,8 @@
--- The operations of mathematical morphology on sets of cells: definitions 2.12 to 2.14 of document 002, and document 01's diagonal rows.
+-- The operations of mathematical morphology on sets of cells: definitions 2.12 to 2.17 of document 002, and document 01's diagonal rows.
 -- This file is what a reader must believe of the operations. Assumes nothing.
 use mathlib.Core.Path.{_≡_}
 use mathlib.Core.Logic.{_⊎_}
+use Prim.Native.Nat.{ℕ, zero, suc}
 use lib.IntN.{ℤ, _+ℤ_, _-ℤ_}
 use Rattle.octagon.specs.Cells.{Cells, Some}
 
@@ -23,6 +24,20 @@ Eroded A B x y = (bx by : ℤ) → B bx by → A (x +ℤ bx) (y +ℤ by)
 -- definition 2.14, the opening of A by B: the erosion, then the dilation
 abbrev pub Opened : Cells → Cells → Cells
 Opened A B = Dilated (Eroded A B) B
+
+-- definition 2.15, the closing of A by B: the dilation, then the erosion
+abbrev pub Closed : Cells → Cells → Cells
+Closed A B = Eroded (Dilated A B) B
+
+-- definition 2.16, the n-fold dilation of A by B
+abbrev pub DilatedTimes : ℕ → Cells → Cells → Cells
+DilatedTimes zero A B = A
+DilatedTimes (suc n) A B = Dilated (DilatedTimes n A B) B
+
+-- definition 2.17, the n-fold erosion of A by B
+abbrev pub ErodedTimes : ℕ → Cells → Cells → Cells
+ErodedTimes zero A B = A
+ErodedTimes (suc n) A B = Eroded (ErodedTimes n A B) B
 
 -- two cells of A in different columns
 pub record Two (A : Cells) : Type 0 where
