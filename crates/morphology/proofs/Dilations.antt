@@ -8,7 +8,7 @@ use native.Mathlib.Omega.{arith}
 use Rattle.integers.proofs.Tests.{cases, true-is-not-false}
 use Rattle.octagon.specs.declared.Octagon.{Octagon}
 use Rattle.octagon.specs.Outcome.{Outcome, accepted, refused, off-map}
-use Rattle.octagon.specs.Cells.{Cells, _⊆_, _≐_, In, OnMap, LeavesMap, Normalised}
+use Rattle.octagon.specs.Cells.{Cells, _≐_, In, LeavesMap, Represents}
 use Rattle.octagon.specs.NormalForm.{normalised, placed, is-on-map}
 use Rattle.octagon.proofs.Outcomes.{accepted-same, refused-same, accepted-not-refused}
 use Rattle.octagon.proofs.Within.{Normal, Near}
@@ -52,8 +52,8 @@ module _ (p f a b : Octagon) (h : Operand p a) (k : Operand f b) where
   normal : Normal (sums a b)
   normal = summed-normal a b (sums a b) (summed a b) (h .normal) (k .normal)
 
-  rows : (are-opposed a b ≡ true) ↔ OpposedRows (In p) (In f)
-  rows = (
+  pub rows-test : (are-opposed a b ≡ true) ↔ OpposedRows (In p) (In f)
+  rows-test = (
     λ t. opposed-same (h .cells) (k .cells) (opposed-rows-test a b (h .normal) (k .normal) .0 t),
     λ r. opposed-rows-test a b (h .normal) (k .normal) .1 (opposed-same (same-sym (h .cells)) (same-sym (k .cells)) r),
   )
@@ -62,12 +62,12 @@ module _ (p f a b : Octagon) (h : Operand p a) (k : Operand f b) where
   exact t = same-trans (sums-exact a b (h .normal) (k .normal) (not-opposed a b t) (not-opposed′ a b t)) (dilated-same (h .cells) (k .cells))
 
   not-rows : are-opposed a b ≡ false → ¬ (OpposedRows (In p) (In f))
-  not-rows t r = true-is-not-false (sym (rows .1 r) ∙ t)
+  not-rows t r = true-is-not-false (sym (rows-test .1 r) ∙ t)
 
   both : Dilating p f (cond (are-opposed a b) (refused opposed-rows) (placed (sums a b)))
   unfolding placed
   both =
-      cases (are-opposed a b) (λ t. rw t (is-opposed a b h k (rows .0 t)))
+      cases (are-opposed a b) (λ t. rw t (is-opposed a b h k (rows-test .0 t)))
       (λ t. cases (is-on-map (sums a b))
       (λ m. rw (t, m) (is-sum a b h k (not-rows t) normal (test-near (sums a b) m) (exact t)))
       (λ m. rw (t, m) (is-off a b h k (not-rows t) (leaves-same (exact t) (far-cell (sums a b) normal m)))))
@@ -84,15 +84,10 @@ dilating p f = go (called p f (λ a b. cond (are-opposed a b) (refused opposed-r
 -- ---- in the words of document 01
 
 -- accepted: exactly the sums of a cell of one and a cell of the other; normalised, and on the map
-pub record DilationIs (p f s : Octagon) : Type 0 where
-  pub cells : In s ≐ Dilated (In p) (In f)
-  pub is-normalised : Normalised s
-  pub on-the-map : In s ⊆ OnMap
-
-pub dilation-accepted : (p f s : Octagon) → dilation p f ≡ accepted s → DilationIs p f s
+pub dilation-accepted : (p f s : Octagon) → dilation p f ≡ accepted s → Represents s (Dilated (In p) (In f))
 dilation-accepted p f s = go (dilating p f)
   where
-    go : {o : Outcome Octagon} → Dilating p f o → o ≡ accepted s → DilationIs p f s
+    go : {o : Outcome Octagon} → Dilating p f o → o ≡ accepted s → Represents s (Dilated (In p) (In f))
     go (first-refuses k r) q = absurd (accepted-not-refused (sym q))
     go (second-refuses a k h r) q = absurd (accepted-not-refused (sym q))
     go (is-opposed a b h k r) q = absurd (accepted-not-refused (sym q))

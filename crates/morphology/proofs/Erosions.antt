@@ -6,7 +6,7 @@ use Prim.Native.Nat.{ℕ}
 use native.Mathlib.Omega.{arith}
 use Rattle.octagon.specs.declared.Octagon.{Octagon}
 use Rattle.octagon.specs.Outcome.{Outcome, accepted, refused, off-map}
-use Rattle.octagon.specs.Cells.{_⊆_, _≐_, Empty, In, OnMap, LeavesMap, Normalised}
+use Rattle.octagon.specs.Cells.{_≐_, Empty, In, LeavesMap, Represents}
 use Rattle.octagon.specs.NormalForm.{normalised, normal-form}
 use Rattle.octagon.proofs.Outcomes.{accepted-same, refused-same, accepted-not-refused}
 use Rattle.octagon.proofs.Within.{Normal, Near}
@@ -50,15 +50,10 @@ eroding p f = go (called p f (λ a b. fitting (normalised (differences a b))))
 -- ---- in the words of document 01
 
 -- accepted: exactly the positions at which the whole of f stands inside p; normalised, and on the map
-pub record ErosionIs (p f e : Octagon) : Type 0 where
-  pub cells : In e ≐ Eroded (In p) (In f)
-  pub is-normalised : Normalised e
-  pub on-the-map : In e ⊆ OnMap
-
-pub erosion-accepted : (p f e : Octagon) → erosion p f ≡ accepted e → ErosionIs p f e
+pub erosion-accepted : (p f e : Octagon) → erosion p f ≡ accepted e → Represents e (Eroded (In p) (In f))
 erosion-accepted p f e = go (eroding p f)
   where
-    go : {o : Outcome Octagon} → Eroding p f o → o ≡ accepted e → ErosionIs p f e
+    go : {o : Outcome Octagon} → Eroding p f o → o ≡ accepted e → Represents e (Eroded (In p) (In f))
     go (first-refuses k r) q = absurd (accepted-not-refused (sym q))
     go (second-refuses a k h r) q = absurd (accepted-not-refused (sym q))
     go (none-fits a b h k s) q = absurd (accepted-not-refused (sym q))

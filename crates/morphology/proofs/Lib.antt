@@ -12,3 +12,9 @@ pub mod Openings
 pub mod Decided
 pub mod Laws
 pub mod Calls
+pub mod Widths
+pub mod Multiples
+pub mod Closings
+pub mod FoldedErosions
+pub mod FoldedDilations
+pub mod FewFolds
