@@ -3,3 +3,6 @@ pub mod Steps
 pub mod Range
 pub mod Closed
 pub mod Drawn
+pub mod Inside
+pub mod Tracings
+pub mod Corners

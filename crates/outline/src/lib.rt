@@ -24,6 +24,18 @@ pub struct Outline {
     pub n7: u32,
 }
 
+// The steps along the sides, each east and north: document 01's d0 to d7.
+pub const STEPS: [[i32; 2]; 8] = [
+    [1, 0],
+    [1, 1],
+    [0, 1],
+    [-1, 1],
+    [-1, 0],
+    [-1, -1],
+    [0, -1],
+    [1, -1],
+];
+
 // The refusal numbers of document 01 that this crate adds.
 pub const NOT_CLOSED: u32 = 3;
 
