@@ -3,3 +3,4 @@ pub mod Closing
 pub mod Walk
 pub mod Tracing
 pub mod Outlining
+pub mod Places
