@@ -10,3 +10,4 @@ pub mod Lengths
 pub mod RoundTrips
 pub mod Over
 pub mod Metres
+pub mod Computed

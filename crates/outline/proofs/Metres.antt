@@ -1,8 +1,8 @@
 -- Corners in metres, in the words of document 01. Assumes nothing.
 use mathlib.Core.Path.{_≡_, refl, sym, ap, _∙_}
-use mathlib.Core.Bool.{true, false}
+use mathlib.Core.Bool.{true}
 use mathlib.Core.Logic.{_↔_, _⊎_, inl, inr, ⊎-elim}
-use Prim.Native.Nat.{ℕ, _+_, _^_, _<_, _≤_}
+use Prim.Native.Nat.{ℕ, _<_, _≤_}
 use native.Mathlib.Nat.{lt-irrefl, mul-pos, zero-mul, zero-lt-suc}
 use native.Mathlib.Omega.{arith}
 use lib.Dec.{ltb}
@@ -12,12 +12,10 @@ use lib.Ieee.Fits.{down-pos}
 use mir.Syntax.{w32}
 use mir.Val.{SFits}
 use borrow.Author.Tests.{lt-ltb, le-ltb, ltb-true, ltb-false}
-use Rattle.integers.proofs.Parts.{up, dn}
-use Rattle.integers.proofs.Linear.{Diff, #, neg, lit, _≼_}
 use Rattle.integers.proofs.Range.{room-near, room-fits32}
 use Rattle.integers.proofs.Tests.{cases, true-is-not-false}
 use Rattle.octagon.specs.declared.Octagon.{Octagon}
-use Rattle.octagon.specs.Outcome.{Outcome, accepted, refused, then}
+use Rattle.octagon.specs.Outcome.{Outcome, accepted, refused}
 use Rattle.octagon.specs.Cells.{OnMap, limit}
 use Rattle.octagon.specs.NormalForm.{normalised}
 use Rattle.octagon.proofs.Outcomes.{accepted-same, refused-same, accepted-not-refused}
@@ -26,7 +24,6 @@ use Rattle.octagon.proofs.NormalForms.{refused-only}
 use Rattle.outline.specs.declared.Outline.{Outline}
 use Rattle.outline.specs.declared.place.Place.{Place}
 use Rattle.outline.specs.Walk.{vertex}
-use Rattle.outline.specs.Tracing.{traced}
 use Rattle.outline.specs.Outlining.{outlined}
 use Rattle.outline.specs.Places.{Exactly, Fitting, over, place-of, no-vertex, corner-place, located}
 use Rattle.outline.proofs.Tracings as tracings

@@ -1,5 +1,5 @@
 -- A whole number over a power of two as an `f64`: rounding to it is exact, and so is the product that makes it. Assumes nothing.
-use mathlib.Core.Path.{_≡_, refl, sym, ap, _∙_}
+use mathlib.Core.Path.{_≡_, sym, ap, _∙_}
 use mathlib.Core.Bool.{Bool, true, false}
 use Prim.Native.Nat.{ℕ, suc, _+_, _-_, _*_, _^_, _≤_, _<_}
 use native.Mathlib.Nat.{mul-assoc, mul-pos, lt-of-lt-of-le, lt-of-le-of-lt, le-of-lt, le-trans}

@@ -34,7 +34,7 @@ quarter z = over z 4
 abbrev pub place-of : ℤ → ℤ → Place
 place-of x y = record { east = quarter x; north = quarter y }
 
--- the refusal number of a corner that an octagon has not
+-- the refusal number of a corner above 7
 abbrev pub no-vertex : ℕ
 no-vertex = 7
 

@@ -1,6 +1,7 @@
-// Outlines of octagons, the field's boundary code (B-code), and their octagons.
+// Outlines, the field's boundary code (B-code), to octagons and back, and the vertices of an octagon in metres.
 //
-// specs/Tracing.antt has what `to_octagon` answers, specs/Walk.antt the walk round an outline and the cells inside it.
+// specs/Walk.antt has the walk round an outline and the cells inside it; specs/Tracing.antt, Outlining.antt and Places.antt what the three
+// calls answer; proofs/Tracings.antt, Corners.antt, RoundTrips.antt and Metres.antt the theorems between them.
 ghost use mathlib.Core.Path.{_≡_};
 ghost use Rattle.octagon.specs.Answers.{outcome as «octagon-outcome»};
 ghost use Rattle.outline.specs.Tracing.{traced};
@@ -37,7 +38,7 @@ pub enum Traced {
     Refused(u32),
 }
 
-// Document 01's corner in metres, or the number of the refusal.
+// A place, or the number of the refusal.
 pub enum Located {
     Place(Place),
     Refused(u32),
@@ -80,7 +81,7 @@ pub fn to_outline(o: Octagon) -> Traced
     }
 }
 
-// Corner k, in metres, of the octagon of any eight bounds. Refuses what `normalise` refuses, then a k above 7.
+// Document 01's corner in metres: vertex k of the octagon of any eight bounds. Refuses what `normalise` refuses, then a k above 7.
 pub fn vertex_place(o: Octagon, k: u32) -> Located
     ensures { λ r. ⌜ «place-outcome» r ≡ located o k ⌝ }
 {

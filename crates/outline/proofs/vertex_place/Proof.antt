@@ -1,5 +1,5 @@
 -- `vertex_place` meets its contract: a refusal of `to_outline` is handed on. Assumes nothing.
-use mathlib.Core.Path.{_≡_, sym, _∙_}
+use mathlib.Core.Path.{sym, _∙_}
 use borrow.Author.Needs.{needs}
 use Rattle.outline.specs.Places.{located}
 use Rattle.outline.proofs.Metres.{corner-fits}

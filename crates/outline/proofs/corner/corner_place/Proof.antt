@@ -1,7 +1,5 @@
 -- `corner_place` meets its contract: a corner that fits is cast, and each number is a quarter. Assumes nothing.
-use mathlib.Core.Path.{_≡_}
 use native.Mathlib.Omega.{arith}
-use mir.Syntax.{w64}
 use mir.Facts.{toZ-ofZ}
 use borrow.Author.Tests.{lt-ltb, le-ltb}
 use Rattle.integers.proofs.Range.{wide-fits}
