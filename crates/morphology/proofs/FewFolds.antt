@@ -10,8 +10,8 @@ use Rattle.morphology.proofs.Multiples.{sums-zero, sums-suc, difference
 use Rattle.morphology.proofs.Operands.{Valid, operand}
 
 -- the bounds of one fold
-multiples-one : (a b : Octagon) → sums a (multiples 1 b) ≡ sums a b
-multiples-one a b = rw (sums-suc 0 a b, sums-zero a b)
+pub sums-one : (a b : Octagon) → sums a (multiples 1 b) ≡ sums a b
+sums-one a b = rw (sums-suc 0 a b, sums-zero a b)
 
 differences-one : (a b : Octagon) → differences a (multiples 1 b) ≡ differences a b
 differences-one a b = rw (differences-suc 0 a b, differences-zero a b)
@@ -19,7 +19,7 @@ differences-one a b = rw (differences-suc 0 a b, differences-zero a b)
 -- one fold
 pub dilation-one : (p f : Octagon) → dilation-n p f 1 ≡ dilation p f
 unfolding dilation-n dilation
-dilation-one p f = simp multiples-one
+dilation-one p f = simp sums-one
 
 pub erosion-one : (p f : Octagon) → erosion-n p f 1 ≡ erosion p f
 unfolding erosion-n erosion

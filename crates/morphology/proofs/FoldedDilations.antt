@@ -21,7 +21,7 @@ use Rattle.morphology.specs.Folds.{multiples, fold-limit, too-many-folds
 use Rattle.morphology.proofs.DiagonalRows.{not-opposed, not-opposed′}
 use Rattle.morphology.proofs.Multiples.{multiples-normal, multiples-dilate}
 use Rattle.morphology.proofs.SetLaws.{same-trans, leaves-same, dilated-times-same}
-use Rattle.morphology.proofs.Dilations.{rows-test}
+use Rattle.morphology.proofs.OpposedOperands.{rows-test}
 use Rattle.morphology.proofs.Operands.{Operand, Valid, clash, no-other, Called, first-refused, second-refused, both-accepted, called}
 
 -- opposed rows that one fold or more would add
@@ -36,8 +36,8 @@ pub data DilatingTimes (p f : Octagon) (n : ℕ) : Outcome Octagon → Type 0 wh
   second-refuses : (k : ℕ) → n ≤ fold-limit → Valid p → normalised f ≡ refused k → DilatingTimes p f n (refused k)
   is-opposed : n ≤ fold-limit → Valid p → Valid f → OpposedIn n p f → DilatingTimes p f n (refused opposed-rows)
   is-off : n ≤ fold-limit → Valid p → Valid f → ¬ (OpposedIn n p f) → LeavesMap (DilatedTimes n (In p) (In f)) → DilatingTimes p f n (refused off-map)
-  is-sum : (s : Octagon) → n ≤ fold-limit → Valid p → Valid f → ¬ (OpposedIn n p f) → Normal s → Near s →
-      In s ≐ DilatedTimes n (In p) (In f) → DilatingTimes p f n (accepted s)
+  is-sum : (a b : Octagon) → Operand p a → Operand f b → ¬ (OpposedIn n p f) → Normal (sums a (multiples n b)) → Near (sums a (multiples n b)) →
+      In (sums a (multiples n b)) ≐ DilatedTimes n (In p) (In f) → DilatingTimes p f n (accepted (sums a (multiples n b)))
 
 -- the call on accepted operands
 abbrev body : ℕ → Octagon → Octagon → Outcome Octagon
@@ -72,7 +72,7 @@ module _ (p f : Octagon) (n : ℕ) (l : n ≤ fold-limit) (a b : Octagon) (h : O
       let s = sums a (multiples n b) in
       cases (are-opposed-in n a b) (λ t. rw t (is-opposed l v w (opposed-test .0 t)))
       (λ t. cases (is-on-map s)
-      (λ m. rw (t, m) (is-sum s l v w (not-in t) normal (test-near s m) (exact t)))
+      (λ m. rw (t, m) (is-sum a b h k (not-in t) normal (test-near s m) (exact t)))
       (λ m. rw (t, m) (is-off l v w (not-in t) (leaves-same (exact t) (far-cell s normal m)))))
 
 pub dilating-times : (p f : Octagon) (n : ℕ) → DilatingTimes p f n (dilation-n p f n)
@@ -98,7 +98,8 @@ dilation-n-accepted p f n s = go (dilating-times p f n)
     go (second-refuses k l v r) q = absurd (accepted-not-refused (sym q))
     go (is-opposed l v w r) q = absurd (accepted-not-refused (sym q))
     go (is-off l v w r m) q = absurd (accepted-not-refused (sym q))
-    go (is-sum d l v w r i m e) q =
+    go (is-sum a b h k r i m e) q =
+        let d = sums a (multiples n b) in
         rw (← accepted-same q) (record { cells = e; is-normalised = normal-normalised d i; on-the-map = near-cells d m })
 
 -- 6 exactly where n is above the limit
@@ -115,7 +116,7 @@ dilation-n-too-many p f n = (to (dilating-times p f n), above p f n)
     to (second-refuses k l v r) q = absurd (no-other f k r (refused-same q))
     to (is-opposed l v w r) q = absurd (let z = refused-same q in omega arith)
     to (is-off l v w r m) q = absurd (let z = refused-same q in omega arith)
-    to (is-sum d l v w r i m e) q = absurd (accepted-not-refused q)
+    to (is-sum a b _ _ r i m e) q = absurd (accepted-not-refused q)
 
 -- a refusal of the first operand is the answer; then one of the second
 pub dilation-n-first : (p f : Octagon) (n k : ℕ) → n ≤ fold-limit → normalised p ≡ refused k → dilation-n p f n ≡ refused k
@@ -137,7 +138,7 @@ dilation-n-opposed p f n = (to (dilating-times p f n), λ v. from (dilating-time
     to (second-refuses k l v r) q = absurd (no-other f k r (refused-same q))
     to (is-opposed l v w r) q = (l, v, w, r)
     to (is-off l v w r m) q = absurd (let z = refused-same q in omega arith)
-    to (is-sum d l v w r i m e) q = absurd (accepted-not-refused q)
+    to (is-sum a b _ _ r i m e) q = absurd (accepted-not-refused q)
 
     from : {o : Outcome Octagon} → DilatingTimes p f n o → dilation-n p f n ≡ o → (n ≤ fold-limit) × Valid p × Valid f × OpposedIn n p f →
         dilation-n p f n ≡ refused opposed-rows
@@ -146,7 +147,7 @@ dilation-n-opposed p f n = (to (dilating-times p f n), λ v. from (dilating-time
     from (second-refuses k l v r) q h = absurd (clash f (h .2) r)
     from (is-opposed l v w r) q h = q
     from (is-off l v w r m) q h = absurd (r (h .3))
-    from (is-sum d l v w r i m e) q h = absurd (r (h .3))
+    from (is-sum a b _ _ r i m e) q h = absurd (r (h .3))
 
 -- after that, 2 exactly where the final set leaves the map, intermediate ones notwithstanding
 pub dilation-n-off-map : (p f : Octagon) (n : ℕ) → n ≤ fold-limit → Valid p → Valid f → ¬ (OpposedIn n p f) →
@@ -159,7 +160,7 @@ dilation-n-off-map p f n l₀ v₀ w₀ n₀ = (to (dilating-times p f n), from 
     to (second-refuses k l v r) q = absurd (clash f w₀ r)
     to (is-opposed l v w r) q = absurd (n₀ r)
     to (is-off l v w r m) q = m
-    to (is-sum d l v w r i m e) q = absurd (accepted-not-refused q)
+    to (is-sum a b _ _ r i m e) q = absurd (accepted-not-refused q)
 
     from : {o : Outcome Octagon} → DilatingTimes p f n o → dilation-n p f n ≡ o → LeavesMap (DilatedTimes n (In p) (In f)) → dilation-n p f n ≡ refused off-map
     from (too-many l) q h = absurd (omega arith)
@@ -167,4 +168,4 @@ dilation-n-off-map p f n l₀ v₀ w₀ n₀ = (to (dilating-times p f n), from 
     from (second-refuses k l v r) q h = absurd (clash f w₀ r)
     from (is-opposed l v w r) q h = absurd (n₀ r)
     from (is-off l v w r m) q h = q
-    from (is-sum d l v w r i m e) q h = absurd (h .cell .1 (near-cells d m (h .x) (h .y) (e (h .x) (h .y) .1 (h .cell .0))))
+    from (is-sum a b _ _ r i m e) q h = absurd (h .cell .1 (near-cells (sums a (multiples n b)) m (h .x) (h .y) (e (h .x) (h .y) .1 (h .cell .0))))
