@@ -1,0 +1,8 @@
+-- Theorems on outlines, and what proofs of functions on them cite.
+pub mod Steps
+pub mod Range
+pub mod Closed
+pub mod Drawn
+pub mod Inside
+pub mod Tracings
+pub mod Corners
