@@ -6,3 +6,5 @@ pub mod Drawn
 pub mod Inside
 pub mod Tracings
 pub mod Corners
+pub mod Lengths
+pub mod RoundTrips

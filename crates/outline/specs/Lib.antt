@@ -2,3 +2,4 @@
 pub mod Closing
 pub mod Walk
 pub mod Tracing
+pub mod Outlining

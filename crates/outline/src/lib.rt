@@ -4,10 +4,13 @@
 ghost use mathlib.Core.Path.{_≡_};
 ghost use Rattle.octagon.specs.Answers.{outcome as «octagon-outcome»};
 ghost use Rattle.outline.specs.Tracing.{traced};
+ghost use Rattle.outline.specs.Outlining.{outlined, outcome};
 use octagon::Answer;
+use octagon::Octagon;
 
 mod closing;
 mod drawing;
+mod sides;
 mod walk;
 
 // Document 01's outline: the start, its lowest corner and of the lowest the leftmost, and eight side lengths, counter-clockwise.
@@ -22,6 +25,12 @@ pub struct Outline {
     pub n5: u32,
     pub n6: u32,
     pub n7: u32,
+}
+
+// An outline, or the number of the refusal.
+pub enum Traced {
+    Outline(Outline),
+    Refused(u32),
 }
 
 // The steps along the sides, each east and north: document 01's d0 to d7.
@@ -47,4 +56,14 @@ pub fn to_octagon(o: Outline) -> Answer
         return drawing::placed(drawing::draw(o));
     }
     Answer::Refused(NOT_CLOSED)
+}
+
+// The outline of any eight bounds: that of their normal form. Refuses what `normalise` refuses.
+pub fn to_outline(o: Octagon) -> Traced
+    ensures { λ r. ⌜ outcome r ≡ outlined o ⌝ }
+{
+    match octagon::normalise(o) {
+        Answer::Octagon(a) => Traced::Outline(sides::outline_of(a)),
+        Answer::Refused(n) => Traced::Refused(n),
+    }
 }
