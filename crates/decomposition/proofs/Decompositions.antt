@@ -19,7 +19,7 @@ use Rattle.decomposition.specs.declared.Split.{Split}
 use Rattle.decomposition.specs.Pieces.{Rebuilt}
 use Rattle.decomposition.specs.Rule.{Rule}
 use Rattle.decomposition.specs.Splitting.{counts, split-of, decomposition}
-use Rattle.decomposition.proofs.OneChoice.{one-choice}
+use Rattle.decomposition.proofs.Choice.{one-choice}
 use Rattle.decomposition.proofs.Rebuilding.{rebuild}
 
 -- what an accepted answer s for the bounds c says

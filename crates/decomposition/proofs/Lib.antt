@@ -2,9 +2,10 @@
 pub mod LastStep
 pub mod Table
 pub mod Sides
+pub mod Rests
 pub mod Choice
-pub mod OneChoice
 pub mod Order
+pub mod Added
 pub mod Exact
 pub mod Rebuilding
 pub mod Decompositions

@@ -4,7 +4,6 @@ use mathlib.Core.Path.{_≡_, refl, sym, _∙_}
 use mathlib.Core.List.{List, [], _∷_}
 use Prim.Native.Nat.{ℕ, _+_, _*_, _≤_}
 use native.Mathlib.Omega.{arith}
-use lib.IntN.{pos}
 use lib.ListN.{drop}
 use Rattle.integers.proofs.Parts.{up, dn}
 use Rattle.integers.proofs.Linear.{#, lit, _≈_}
@@ -18,14 +17,15 @@ use Rattle.morphology.specs.Sets.{DilatedTimes}
 use Rattle.morphology.proofs.SetLaws.{same-trans}
 use Rattle.decomposition.specs.declared.Start.{Start}
 use Rattle.decomposition.specs.declared.Counts.{Counts}
-use Rattle.decomposition.specs.Pieces.{shown, pieces, piece-of, listed, Only, DilatedByEach}
-use Rattle.decomposition.specs.Rule.{others}
+use Rattle.decomposition.specs.Pieces.{shown, pieces, piece-of, listed, Only, DilatedByEach, Rebuilt}
+use Rattle.decomposition.specs.Rule.{others, Crossed}
 use Rattle.decomposition.specs.Splitting.{first-counts, is-crossed, joined, counts, split-of}
 use Rattle.decomposition.proofs.Sides.{SameSides, made}
-use Rattle.decomposition.proofs.OneChoice.{counts-made}
+use Rattle.decomposition.proofs.Choice.{counts-made}
 use Rattle.decomposition.proofs.LastStep.{crossed-test}
 use Rattle.decomposition.proofs.Order.{times-same, put-last}
-use Rattle.decomposition.proofs.Exact.{Exact, AtOrigin, plus, rises, falls, Free, Against, exact-same, exact-times, AllBroad, plus-each, exact-each, cell-at, exact-start}
+use Rattle.decomposition.proofs.Added.{AtOrigin, plus, plus-each}
+use Rattle.decomposition.proofs.Exact.{Exact, rises, falls, Free, exact-same, exact-times, AllBroad, exact-each, cell-at, exact-start}
 
 -- ---- the two diagonal rows, and the pieces that are none
 
@@ -48,52 +48,44 @@ broads = piece-of 0 ∷ piece-of 2 ∷ later
 abbrev broad-counts : Counts → List ℕ
 broad-counts k = k .k1 ∷ k .k3 ∷ later-counts k
 
+-- (`omega` takes a goal of up to 64 parts)
 all-broad : AllBroad broads
 unfolding broads piece-of pieces shown up dn
 all-broad = (omega arith, (omega arith, (omega arith, (omega arith, (omega arith, omega arith)))))
 
--- no sides but these
-record Row (p : Outline) (r f : ℕ) : Type 0 where
-  closed : Closes p
-  origin : AtOrigin p
-  r0 : p .n0 ≡ 0
-  r1 : p .n1 ≡ r
-  r2 : p .n2 ≡ 0
-  r3 : p .n3 ≡ f
-  r4 : p .n4 ≡ 0
-  r5 : p .n5 ≡ r
-  r6 : p .n6 ≡ 0
-  r7 : p .n7 ≡ f
-
-K2-row : Row K2 1 0
+K2-at-origin : AtOrigin K2
 unfolding piece-of pieces shown up dn
-K2-row = omega arith
+K2-at-origin = omega arith
 
-K4-row : Row K4 0 1
+K4-at-origin : AtOrigin K4
 unfolding piece-of pieces shown up dn
-K4-row = omega arith
+K4-at-origin = omega arith
 
 -- ---- the two diagonal rows are never there alone
 
-pub record Alone (k : Counts) : Type 0 where
-  pub some-k2 : 1 ≤ k .k2
-  pub some-k4 : 1 ≤ k .k4
-  pub no-others : others k + k .k13 ≡ 0
+-- K2 and K4 are there and nothing else is, K13 included
+record Alone (k : Counts) : Type 0 where
+  some-k2 : 1 ≤ k .k2
+  some-k4 : 1 ≤ k .k4
+  no-others : others k + k .k13 ≡ 0
 
--- the sides of all but the diagonal rows
+-- the sides that all but the diagonal rows make
 abbrev wide : Counts → Outline
-wide k = record {
-  i = pos 0;
-  j = pos 0;
-  n0 = k .k1 + k .k5 + k .k6 + 2 * k .k9;
-  n1 = k .k7 + k .k10 + k .k11 + k .k13;
-  n2 = k .k3 + k .k5 + k .k8 + 2 * k .k12;
-  n3 = k .k6 + k .k9 + k .k11 + k .k13;
-  n4 = k .k1 + k .k7 + k .k8 + 2 * k .k10;
-  n5 = k .k5 + k .k9 + k .k12 + k .k13;
-  n6 = k .k3 + k .k6 + k .k7 + 2 * k .k11;
-  n7 = k .k8 + k .k10 + k .k12 + k .k13;
-}
+wide k = made (record {
+  k1 = k .k1;
+  k2 = 0;
+  k3 = k .k3;
+  k4 = 0;
+  k5 = k .k5;
+  k6 = k .k6;
+  k7 = k .k7;
+  k8 = k .k8;
+  k9 = k .k9;
+  k10 = k .k10;
+  k11 = k .k11;
+  k12 = k .k12;
+  k13 = k .k13;
+})
 
 each-wide : (k : Counts) (s : Start) → SameSides (plus-each (broad-counts k) broads (cell-at s)) (wide k)
 unfolding broads piece-of pieces shown
@@ -112,20 +104,18 @@ none k h = omega arith
 -- what the other pieces make is opposed to no K4
 free-k4 : (k : Counts) (o : Outline) → SameSides o (wide k) → Free o K4
 unfolding piece-of pieces shown
-free-k4 k o w =
-    (λ a. let z = none k (no-falls k (omega arith)) in omega arith, λ a. omega arith)
+free-k4 k o w = (λ a. let z = none k (no-falls k (omega arith)) in omega arith, λ a. omega arith)
 
 -- and what these make with some K4 is opposed to no K2
 free-k2 : (k : Counts) (o : Outline) → SameSides o (wide k) → ¬ (Alone k) → 1 ≤ k .k2 → Free (plus (k .k4) K4 o) K2
 unfolding piece-of pieces shown
-free-k2 k o w n l =
-    (
-      λ a. omega arith,
-      λ a.
-          let z : others k + k .k13 ≡ 0 = no-rises k (omega arith) in
-          let y = none k z in
-          n (record { some-k2 = l; some-k4 = omega arith; no-others = z }),
-    )
+free-k2 k o w n l = (
+  λ a. omega arith,
+  λ a.
+      let z : others k + k .k13 ≡ 0 = no-rises k (omega arith) in
+      let y = none k z in
+      n (record { some-k2 = l; some-k4 = omega arith; no-others = z }),
+)
 
 -- ---- in that order
 
@@ -150,9 +140,9 @@ module _ (k : Counts) (s : Start) where
   exact : ¬ (Alone k) → Exact rows-last (plus (k .k2) K2 (plus (k .k4) K4 sides))
   unfolding rows-last broad
   exact n =
-      exact-times (DilatedTimes (k .k4) broad (InsideWalk K4)) (k .k2) (plus (k .k4) K4 sides) K2 (K2-row .closed) (K2-row .origin)
+      exact-times (DilatedTimes (k .k4) broad (InsideWalk K4)) (k .k2) (plus (k .k4) K4 sides) K2 K2-at-origin
       (free-k2 k sides (each-wide k s) n)
-      (exact-times broad (k .k4) sides K4 (K4-row .closed) (K4-row .origin) (λ l. free-k4 k sides (each-wide k s))
+      (exact-times broad (k .k4) sides K4 K4-at-origin (λ l. free-k4 k sides (each-wide k s))
       (exact-each (Only s) (broad-counts k) broads (cell-at s) all-broad (exact-start s)))
 
   all-made : SameSides (plus (k .k2) K2 (plus (k .k4) K4 sides)) (made k)
@@ -167,21 +157,25 @@ module _ (k : Counts) (s : Start) where
 
 joined-whole : (k : Counts) → ¬ (Alone (joined k))
 unfolding joined
-joined-whole k = cases (is-crossed k) (λ t. rw t (λ a. omega arith)) (λ f. rw f (λ a. true-is-not-false (sym (crossed-test k (record { some-k2 = a .some-k2; some-k4 = a .some-k4; no-others = omega arith })) ∙ f)))
+joined-whole k = cases (is-crossed k) (λ t. rw t (λ a. omega arith)) (λ f. rw f (λ a. true-is-not-false (sym (crossed-test k (crossed a)) ∙ f)))
+  where
+    crossed : Alone k → Crossed k
+    crossed a = omega arith
 
 counts-whole : (o : Outline) → ¬ (Alone (counts o))
 unfolding counts
 counts-whole o = joined-whole (first-counts o)
 
-same-trans-sides : (o p q : Outline) → SameSides p o → SameSides q p → SameSides o q
-same-trans-sides o p q e f = omega arith
+between : (o p q : Outline) → SameSides p o → SameSides q p → SameSides o q
+between o p q e f = omega arith
 
 -- the start cell dilated by the counted pieces: exactly the cells of the outline's octagon
-pub rebuild : (o : Outline) → Closes o → DilatedByEach (listed (counts o)) pieces (Only (split-of o .start)) ≐ In (drawn o)
+pub rebuild : (o : Outline) → Closes o → Rebuilt (split-of o) ≐ In (drawn o)
 unfolding split-of
 rebuild o c =
     let s : Start = record { i = o .i; j = o .j } in
     let k = counts o in
     let t = plus (k .k2) K2 (plus (k .k4) K4 (sides k s)) in
-    same-trans (put-rows-last k s)
-    (exact-same (rows-last k s) t o (start-kept k s .0) (start-kept k s .1) (same-trans-sides o (made k) t (counts-made o c) (all-made k s)) (exact k s (counts-whole o)) .cells)
+    let e = start-kept k s in
+    let m = between o (made k) t (counts-made o c) (all-made k s) in
+    same-trans (put-rows-last k s) (exact-same (rows-last k s) t o (e .0) (e .1) m (exact k s (counts-whole o)) .cells)

@@ -1,7 +1,7 @@
 // The counts of the pieces of an outline that closes.
 ghost use mathlib.Core.Path.{_≡_};
 ghost use Prim.Native.Nat.{_+_, _-_, min};
-ghost use Rattle.decomposition.specs.Rule.{others as «all-others»};
+ghost use Rattle.decomposition.specs.Rule as rule;
 ghost use Rattle.decomposition.specs.Splitting as splitting;
 use crate::Counts;
 use outline::Outline;
@@ -18,6 +18,7 @@ pub struct Triangles {
     pub k12: u32,
 }
 
+// The smaller of two numbers.
 fn smaller(a: u32, b: u32) -> u32
     ensures { λ r. ⌜ r ≡ min a b ⌝ }
 {
@@ -27,7 +28,7 @@ fn smaller(a: u32, b: u32) -> u32
     b
 }
 
-// What a has above b.
+// What a has above b, or nought.
 fn surplus(a: u32, b: u32) -> u32
     ensures { λ r. ⌜ r ≡ a - b ⌝ }
 {
@@ -63,7 +64,7 @@ fn rest(o: Outline) -> Outline
     }
 }
 
-// The triangles that make a rest.
+// The triangles that make a rest: of each kind the smaller of two sides.
 fn count_triangles(r: Outline) -> Triangles
     ensures { λ t. ⌜ t ≡ splitting.triangles-of r ⌝ }
 {
@@ -87,7 +88,7 @@ fn count_triangles(r: Outline) -> Triangles
     }
 }
 
-// The rows of an outline, and triangles.
+// The rows K1 to K4 of an outline, with triangles.
 fn with_rows(o: Outline, t: Triangles) -> Counts
     ensures { λ r. ⌜ r ≡ splitting.with-rows o t ⌝ }
 {
@@ -108,7 +109,7 @@ fn with_rows(o: Outline, t: Triangles) -> Counts
     }
 }
 
-// A sum of five counts, which always fits.
+// The sum of five counts, which always fits.
 fn sum5(a: u32, b: u32, c: u32, d: u32, e: u32) -> u64
     ensures { λ r. ⌜ r ≡ a + b + c + d + e ⌝ }
 {
@@ -117,7 +118,7 @@ fn sum5(a: u32, b: u32, c: u32, d: u32, e: u32) -> u64
 
 // How many pieces there are but K2, K4 and K13.
 fn others(k: Counts) -> u64
-    ensures { λ r. ⌜ r ≡ «all-others» k ⌝ }
+    ensures { λ r. ⌜ r ≡ rule.others k ⌝ }
 {
     sum5(k.k1, k.k3, k.k5, k.k6, k.k7) + sum5(k.k8, k.k9, k.k10, k.k11, k.k12)
 }

@@ -4,7 +4,7 @@
 // specs/Splitting.antt what `decompose` answers, proofs/Decompositions.antt the theorems between them.
 ghost use mathlib.Core.Path.{_≡_};
 ghost use lib.ListN.{getD};
-ghost use Rattle.decomposition.specs.Pieces.{«from-origin», «piece-of»};
+ghost use Rattle.decomposition.specs.Pieces as pieces;
 ghost use Rattle.decomposition.specs.Splitting as splitting;
 use octagon::Octagon;
 use outline::Outline;
@@ -67,7 +67,7 @@ pub const PIECES: [[u32; 8]; 13] = [
 
 // Eight side lengths as an outline that starts at (0, 0).
 fn from_origin(n: [u32; 8]) -> Outline
-    ensures { λ r. ⌜ r ≡ «from-origin» (λ m. getD n m 0) ⌝ }
+    ensures { λ r. ⌜ r ≡ pieces.from-origin (λ m. getD n m 0) ⌝ }
 {
     Outline {
         i: 0,
@@ -85,12 +85,12 @@ fn from_origin(n: [u32; 8]) -> Outline
 
 // The piece in row k of the table as an outline, counted from 0; the one cell (0, 0) past its end.
 pub fn piece(k: usize) -> Outline
-    ensures { λ r. ⌜ r ≡ «piece-of» k ⌝ }
+    ensures { λ r. ⌜ r ≡ pieces.piece-of k ⌝ }
 {
     if k < 13 {
         return from_origin(PIECES[k]);
     }
-    from_origin([0, 0, 0, 0, 0, 0, 0, 0])
+    from_origin([0; 8])
 }
 
 // The start cell of an outline, and the counts of the pieces that make it.
