@@ -1,0 +1,21 @@
+-- `joined` meets its contract: where both are there, one can be taken from each. Assumes nothing.
+use Rattle.integers.proofs.Range.{told}
+use Rattle.decomposition.specs.Rule.{Crossed}
+use Rattle.decomposition.specs.Splitting.{joined}
+use Rattle.decomposition.proofs.LastStep.{test-crossed}
+use Rattle.decomposition.proofs.counting.joined.Statement.{statement}
+use Rattle.decomposition.proofs.counting.joined.Tie as tie
+
+crossed : (c : tie.Then1) → Crossed (c .before .before .args .k)
+crossed c = test-crossed (c .before .before .args .k) (told (c .if1 .taken) (c .before .is-crossed .ensures))
+
+returns : tie.Need-returns
+unfolding joined
+returns c = rw (told (c .before .before .if1 .taken) (c .before .before .before .is-crossed .ensures))
+
+returns-2 : tie.Need-returns-2
+unfolding joined
+returns-2 c = rw (told (c .if1 .left) (c .before .is-crossed .ensures))
+
+pub joined-spec : {M : Type 1} → statement M
+joined-spec = tie.close (tie.spec (λ c κs. tt) (λ c. crossed (c .before) .some-k2) (λ c. crossed (c .before .before) .some-k4) returns returns-2)

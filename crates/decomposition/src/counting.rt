@@ -1,0 +1,162 @@
+// The counts of the pieces of an outline that closes.
+ghost use mathlib.Core.Path.{_≡_};
+ghost use Prim.Native.Nat.{_+_, _-_, min};
+ghost use Rattle.decomposition.specs.Rule as rule;
+ghost use Rattle.decomposition.specs.Splitting as splitting;
+use crate::Counts;
+use outline::Outline;
+
+// How many there are of the pieces K5 to K12.
+pub struct Triangles {
+    pub k5: u32,
+    pub k6: u32,
+    pub k7: u32,
+    pub k8: u32,
+    pub k9: u32,
+    pub k10: u32,
+    pub k11: u32,
+    pub k12: u32,
+}
+
+// The smaller of two numbers.
+fn smaller(a: u32, b: u32) -> u32
+    ensures { λ r. ⌜ r ≡ min a b ⌝ }
+{
+    if a < b {
+        return a;
+    }
+    b
+}
+
+// What a has above b, or nought.
+fn surplus(a: u32, b: u32) -> u32
+    ensures { λ r. ⌜ r ≡ a - b ⌝ }
+{
+    if a < b {
+        return 0;
+    }
+    a - b
+}
+
+// What the opposite sides leave of an outline.
+fn rest(o: Outline) -> Outline
+    ensures { λ r. ⌜ r ≡ splitting.rest o ⌝ }
+{
+    let n0 = o.n0;
+    let n1 = o.n1;
+    let n2 = o.n2;
+    let n3 = o.n3;
+    let n4 = o.n4;
+    let n5 = o.n5;
+    let n6 = o.n6;
+    let n7 = o.n7;
+    Outline {
+        i: 0,
+        j: 0,
+        n0: surplus(n0, n4),
+        n1: surplus(n1, n5),
+        n2: surplus(n2, n6),
+        n3: surplus(n3, n7),
+        n4: surplus(n4, n0),
+        n5: surplus(n5, n1),
+        n6: surplus(n6, n2),
+        n7: surplus(n7, n3),
+    }
+}
+
+// The triangles that make a rest: of each kind the smaller of two sides.
+fn count_triangles(r: Outline) -> Triangles
+    ensures { λ t. ⌜ t ≡ splitting.triangles-of r ⌝ }
+{
+    let n0 = r.n0;
+    let n1 = r.n1;
+    let n2 = r.n2;
+    let n3 = r.n3;
+    let n4 = r.n4;
+    let n5 = r.n5;
+    let n6 = r.n6;
+    let n7 = r.n7;
+    Triangles {
+        k5: smaller(n0, n2),
+        k6: smaller(n0, n6),
+        k7: smaller(n4, n6),
+        k8: smaller(n2, n4),
+        k9: smaller(n3, n5),
+        k10: smaller(n1, n7),
+        k11: smaller(n1, n3),
+        k12: smaller(n5, n7),
+    }
+}
+
+// The rows K1 to K4 of an outline, with triangles.
+fn with_rows(o: Outline, t: Triangles) -> Counts
+    ensures { λ r. ⌜ r ≡ splitting.with-rows o t ⌝ }
+{
+    Counts {
+        k1: smaller(o.n0, o.n4),
+        k2: smaller(o.n1, o.n5),
+        k3: smaller(o.n2, o.n6),
+        k4: smaller(o.n3, o.n7),
+        k5: t.k5,
+        k6: t.k6,
+        k7: t.k7,
+        k8: t.k8,
+        k9: t.k9,
+        k10: t.k10,
+        k11: t.k11,
+        k12: t.k12,
+        k13: 0,
+    }
+}
+
+// The sum of five counts, which always fits.
+fn sum5(a: u32, b: u32, c: u32, d: u32, e: u32) -> u64
+    ensures { λ r. ⌜ r ≡ a + b + c + d + e ⌝ }
+{
+    (a as u64) + (b as u64) + (c as u64) + (d as u64) + (e as u64)
+}
+
+// How many pieces there are but K2, K4 and K13.
+fn others(k: Counts) -> u64
+    ensures { λ r. ⌜ r ≡ rule.others k ⌝ }
+{
+    sum5(k.k1, k.k3, k.k5, k.k6, k.k7) + sum5(k.k8, k.k9, k.k10, k.k11, k.k12)
+}
+
+// Whether K2 and K4 are there and nothing else is.
+fn is_crossed(k: Counts) -> bool
+    ensures { λ r. ⌜ r ≡ splitting.is-crossed k ⌝ }
+{
+    (0 < k.k2) & (0 < k.k4) & (others(k) == 0)
+}
+
+// The last step: where K2 and K4 are there and nothing else is, one of each becomes one K13.
+fn joined(k: Counts) -> Counts
+    ensures { λ r. ⌜ r ≡ splitting.joined k ⌝ }
+{
+    if is_crossed(k) {
+        return Counts {
+            k1: k.k1,
+            k2: k.k2 - 1,
+            k3: k.k3,
+            k4: k.k4 - 1,
+            k5: k.k5,
+            k6: k.k6,
+            k7: k.k7,
+            k8: k.k8,
+            k9: k.k9,
+            k10: k.k10,
+            k11: k.k11,
+            k12: k.k12,
+            k13: 1,
+        };
+    }
+    k
+}
+
+// The counts of the pieces.
+pub fn count_pieces(o: Outline) -> Counts
+    ensures { λ r. ⌜ r ≡ splitting.counts o ⌝ }
+{
+    joined(with_rows(o, count_triangles(rest(o))))
+}

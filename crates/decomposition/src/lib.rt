@@ -1,0 +1,114 @@
+// The decomposition of an octagon into thirteen pieces (document 01's split), in constant time.
+//
+// specs/Pieces.antt has the pieces and the set that counted pieces make, specs/Rule.antt document 01's rule for the counts,
+// specs/Splitting.antt what `decompose` answers, proofs/Decompositions.antt the theorems between them.
+ghost use mathlib.Core.Path.{_≡_};
+ghost use lib.ListN.{getD};
+ghost use Rattle.decomposition.specs.Pieces as pieces;
+ghost use Rattle.decomposition.specs.Splitting as splitting;
+use octagon::Octagon;
+use outline::Outline;
+use outline::Traced;
+use outline::to_outline;
+
+mod counting;
+
+// The cell from which the pieces spread: document 01's start.
+pub struct Start {
+    pub i: i32,
+    pub j: i32,
+}
+
+// How many there are of each piece.
+pub struct Counts {
+    pub k1: u32,
+    pub k2: u32,
+    pub k3: u32,
+    pub k4: u32,
+    pub k5: u32,
+    pub k6: u32,
+    pub k7: u32,
+    pub k8: u32,
+    pub k9: u32,
+    pub k10: u32,
+    pub k11: u32,
+    pub k12: u32,
+    pub k13: u32,
+}
+
+// Document 01's split.
+pub struct Split {
+    pub start: Start,
+    pub counts: Counts,
+}
+
+// A split, or the number of the refusal.
+pub enum Decomposed {
+    Split(Split),
+    Refused(u32),
+}
+
+// Document 01's pieces K1 to K13: for each the lengths of its sides along the steps `outline::STEPS`, from (0, 0).
+pub const PIECES: [[u32; 8]; 13] = [
+    [1, 0, 0, 0, 1, 0, 0, 0],
+    [0, 1, 0, 0, 0, 1, 0, 0],
+    [0, 0, 1, 0, 0, 0, 1, 0],
+    [0, 0, 0, 1, 0, 0, 0, 1],
+    [1, 0, 1, 0, 0, 1, 0, 0],
+    [1, 0, 0, 1, 0, 0, 1, 0],
+    [0, 1, 0, 0, 1, 0, 1, 0],
+    [0, 0, 1, 0, 1, 0, 0, 1],
+    [2, 0, 0, 1, 0, 1, 0, 0],
+    [0, 1, 0, 0, 2, 0, 0, 1],
+    [0, 1, 0, 1, 0, 0, 2, 0],
+    [0, 0, 2, 0, 0, 1, 0, 1],
+    [0, 1, 0, 1, 0, 1, 0, 1],
+];
+
+// Eight side lengths as an outline that starts at (0, 0).
+fn from_origin(n: [u32; 8]) -> Outline
+    ensures { λ r. ⌜ r ≡ pieces.from-origin (λ m. getD n m 0) ⌝ }
+{
+    Outline {
+        i: 0,
+        j: 0,
+        n0: n[0],
+        n1: n[1],
+        n2: n[2],
+        n3: n[3],
+        n4: n[4],
+        n5: n[5],
+        n6: n[6],
+        n7: n[7],
+    }
+}
+
+// The piece in row k of the table as an outline, counted from 0; the one cell (0, 0) past its end.
+pub fn piece(k: usize) -> Outline
+    ensures { λ r. ⌜ r ≡ pieces.piece-of k ⌝ }
+{
+    if k < 13 {
+        return from_origin(PIECES[k]);
+    }
+    from_origin([0; 8])
+}
+
+// The start cell of an outline, and the counts of the pieces that make it.
+fn split_of(o: Outline) -> Split
+    ensures { λ r. ⌜ r ≡ splitting.split-of o ⌝ }
+{
+    Split {
+        start: Start { i: o.i, j: o.j },
+        counts: counting::count_pieces(o),
+    }
+}
+
+// The start cell and the counts of the pieces that make any eight bounds' octagon. Refuses what `normalise` refuses.
+pub fn decompose(o: Octagon) -> Decomposed
+    ensures { λ r. ⌜ splitting.outcome r ≡ splitting.decomposition o ⌝ }
+{
+    match to_outline(o) {
+        Traced::Outline(t) => Decomposed::Split(split_of(t)),
+        Traced::Refused(n) => Decomposed::Refused(n),
+    }
+}
