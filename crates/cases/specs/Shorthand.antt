@@ -5,6 +5,7 @@ use Rattle.octagon.specs.declared.Octagon.{Octagon}
 use Rattle.octagon.specs.Outcome.{Outcome, accepted, refused, then}
 use Rattle.outline.specs.declared.Outline.{Outline}
 use Rattle.outline.specs.Tracing.{traced}
+use Rattle.decomposition.specs.declared.Split.{Split}
 use Rattle.morphology.specs.Operations.{dilation, erosion, opened}
 
 -- eight bounds c0 to c7
@@ -39,6 +40,13 @@ K13 = from-origin 0 1 0 1 0 1 0 1
 -- one cell
 abbrev pub cell : ℤ → ℤ → Outline
 cell x y = outline x y 0 0 0 0 0 0 0 0
+
+-- a split that starts at (0, 0), with counts of K1 to K13
+abbrev pub pieces : ℕ → ℕ → ℕ → ℕ → ℕ → ℕ → ℕ → ℕ → ℕ → ℕ → ℕ → ℕ → ℕ → Split
+pieces k1 k2 k3 k4 k5 k6 k7 k8 k9 k10 k11 k12 k13 = record {
+  start = record { i = pos 0; j = pos 0 };
+  counts = record { k1 = k1; k2 = k2; k3 = k3; k4 = k4; k5 = k5; k6 = k6; k7 = k7; k8 = k8; k9 = k9; k10 = k10; k11 = k11; k12 = k12; k13 = k13 };
+}
 
 -- an operation on the octagons of two outlines
 abbrev pub by : (Octagon → Octagon → Outcome Octagon) → Outcome Octagon → Outline → Outcome Octagon

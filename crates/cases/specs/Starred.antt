@@ -14,13 +14,16 @@ use Rattle.outline.specs.Tracing.{bounds-at, drawn, traced}
 use Rattle.outline.specs.Outlining.{outline-of as drawn-sides, outlined}
 use Rattle.cell_count.specs.Area.{triangle, rectangle, corners, area, cell-count}
 use Rattle.morphology.specs.Operations.{sums, differences, is-rising, is-falling, are-opposed, dilation, erosion, opened}
-use Rattle.cases.specs.Shorthand.{bounds, outline, from-origin, block, three-by-three, K2, K4, K13, cell, spread, trim, open-by}
+use Rattle.decomposition.specs.declared.Split.{Split}
+use Rattle.decomposition.specs.Splitting.{rest, triangles-of, with-rows, first-counts, is-crossed, joined, counts, split-of as split, decomposition}
+use Rattle.cases.specs.Shorthand.{bounds, outline, from-origin, block, three-by-three, K2, K4, K13, cell, pieces, spread, trim, open-by}
 
 -- an answer of one of the calls
 pub data Result : Type 0 where
   octagon-of : Outcome Octagon → Result
   outline-of : Outcome Outline → Result
   cells-of : Outcome ℕ → Result
+  split-of : Outcome Split → Result
 
 -- what a definition gives, and what document 01 says that it gives
 pub record Case : Type 0 where
@@ -58,9 +61,12 @@ starred =
     is (octagon-of (open-by (traced K13) K4)) (octagon-of (refused 4)) ∷
     -- Cell (-16000,0) trimmed by cell (1,0): 2.
     is (octagon-of (trim (traced (cell (negsuc 15999) (pos 0))) (cell (pos 1) (pos 0)))) (octagon-of (refused 2)) ∷
+    -- Sides 0 2 0 2 0 2 0 2 split as one each of K2, K4, K13. Sides 3 0 1 1 0 2 0 0 split as one K5 and one K9.
+    is (split-of (then (traced (from-origin 0 2 0 2 0 2 0 2)) decomposition)) (split-of (accepted (pieces 0 1 0 1 0 0 0 0 0 0 0 0 1))) ∷
+    is (split-of (then (traced (from-origin 3 0 1 1 0 2 0 0)) decomposition)) (split-of (accepted (pieces 0 0 0 0 1 0 0 0 1 0 0 0 0))) ∷
     []
 
 -- each gives what document 01 says
 pub starred-cases : map (λ c. c .given) starred ≡ map (λ c. c .expected) starred
-unfolding starred normalised normal-form tight-odd tight-even even-bound odd-bound minℤ halfℤ has-cell placed is-on-map sides traced closes drawn bounds-at vertex outlined drawn-sides cell-count area rectangle corners triangle dilation erosion opened sums differences are-opposed is-rising is-falling
+unfolding starred normalised normal-form tight-odd tight-even even-bound odd-bound minℤ halfℤ has-cell placed is-on-map sides traced closes drawn bounds-at vertex outlined drawn-sides cell-count area rectangle corners triangle dilation erosion opened sums differences are-opposed is-rising is-falling decomposition split rest triangles-of with-rows first-counts is-crossed joined counts
 starred-cases = refl
