@@ -30,7 +30,7 @@ own-area c a e r h = omega (arith, cells-and-corners r a (accepted-normal c a e)
 
 -- the formula is the number of cells within the bounds, in the map's square and in every larger one
 pub counted : (c a : Octagon) → normalised c ≡ accepted a → (r : ℕ) → limit ≤ r → area a ≡ count r (inside c)
-counted c a e r h = own-area c a e r h ∙ count-same r (inside-same a c (accepted-means c a e .same-cells))
+counted c a e r h = own-area c a e r h ∙ count-same r (inside-same a c (accepted-means c a e .cells))
 
 -- it fits an unsigned 32-bit number
 pub area-fits : (c a : Octagon) → normalised c ≡ accepted a → area a < 2 ^ 32

@@ -5,3 +5,4 @@ pub mod Tests
 pub mod Between
 pub mod Minimum
 pub mod Range
+pub mod Multiples

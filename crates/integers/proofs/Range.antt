@@ -39,7 +39,7 @@ roof-top (suc n) = omega (arith, roof-top n)
 
 -- ---- from room to a width
 
-parts-mag : (z : ℤ) (k : ℕ) → up z < k → dn z ≤ k → mag z < k
+pub parts-mag : (z : ℤ) (k : ℕ) → up z < k → dn z ≤ k → mag z < k
 unfolding up dn
 parts-mag (pos n) k h l = omega arith
 parts-mag (negsuc n) k h l = omega arith
@@ -62,7 +62,7 @@ wide-fits f = sfits-widen tt f
 
 -- ---- from a width, or a literal, to room
 
-mag-parts : (z : ℤ) (k : ℕ) → mag z < k → (up z ≤ k) × (dn z ≤ k)
+pub mag-parts : (z : ℤ) (k : ℕ) → mag z < k → (up z ≤ k) × (dn z ≤ k)
 unfolding up dn
 mag-parts (pos n) k h = omega arith
 mag-parts (negsuc n) k h = omega arith
@@ -82,10 +82,20 @@ unfolding up dn
 room-negsuc n k t = room n (omega arith) (leb→le (suc k) (roof n) t)
 
 -- a number that is at most k from 0
-pub room-near : (n k : ℕ) (z : ℤ) → T (leb k (roof n)) → # z ≼ lit k → neg (# z) ≼ lit k → Room n z
+pub near-parts : (k : ℕ) (z : ℤ) → # z ≼ lit k → neg (# z) ≼ lit k → (up z ≤ k) × (dn z ≤ k)
 unfolding up dn
-room-near n k (pos m) t h l = let q = leb→le k (roof n) t in room n (omega arith) (omega arith)
-room-near n k (negsuc m) t h l = let q = leb→le k (roof n) t in room n (omega arith) (omega arith)
+near-parts k (pos m) h l = omega arith
+near-parts k (negsuc m) h l = omega arith
+
+pub room-near : (n k : ℕ) (z : ℤ) → T (leb k (roof n)) → # z ≼ lit k → neg (# z) ≼ lit k → Room n z
+room-near n k z t h l =
+    let p = near-parts k z h l in
+    let q = leb→le k (roof n) t in
+    room n (omega arith) (omega arith)
+
+-- a number that is at most k from 0, and k within the width's range
+pub near-fits : (w : Width) (k : ℕ) (z : ℤ) → k < 2 ^ hbits w → # z ≼ lit k → neg (# z) ≼ lit k → SFits w z
+near-fits w k z l h m = let p = near-parts k z h m in record { sfits = parts-mag z (2 ^ hbits w) (omega arith) (omega arith) }
 
 -- ---- the operations
 

@@ -1,6 +1,6 @@
-// The operations that signed code shares: an exact sum, the lesser of two numbers, and half of one rounded down.
+// The operations that signed code shares: exact sums, multiples and magnitudes, the lesser of two numbers, and half of one rounded down.
 ghost use mathlib.Core.Path.{_≡_};
-ghost use lib.IntN.{_+ℤ_};
+ghost use lib.IntN.{pos, natAbs, _+ℤ_, _*ℤ_};
 ghost use Rattle.integers.specs.Minimum.{minℤ, halfℤ};
 
 // The sum of two numbers, which always fits.
@@ -8,6 +8,13 @@ pub fn sum(a: i32, b: i32) -> i64
     ensures { λ r. ⌜ r ≡ a +ℤ b ⌝ }
 {
     (a as i64) + (b as i64)
+}
+
+// A multiple of a number, which always fits.
+pub fn times(n: u32, a: i32) -> i64
+    ensures { λ r. ⌜ r ≡ pos n *ℤ a ⌝ }
+{
+    (n as i64) * (a as i64)
 }
 
 // The lesser of two numbers.
@@ -22,4 +29,15 @@ pub fn half(a: i64) -> i64
     ensures { λ r. ⌜ r ≡ halfℤ a ⌝ }
 {
     a >> 1
+}
+
+// How far a number is from 0.
+pub fn magnitude(a: i32) -> u64
+    ensures { λ r. ⌜ r ≡ natAbs a ⌝ }
+{
+    let wide = a as i64;
+    if wide < 0 {
+        return (0 - wide) as u64;
+    }
+    wide as u64
 }

@@ -135,7 +135,7 @@ opening-inside p f o q x y i =
 pub opening-again : (p f o : Octagon) → opened p f ≡ accepted o → opened o f ≡ accepted o
 opening-again p f o q =
     let s = opening-steps p f o q in
-    let e = s .left in
-    let t = erosion-accepted p f e (s .eroded) in
+    let e = s .between in
+    let t = erosion-accepted p f e (s .first) in
     let n = reached-normal e (t .is-normalised .reached) in
-    opening-dilation o f e (erosion-of-sum e f o (accepted-sum e f o (s .dilated)) ∙ normal-answer e n (cells-near e n (t .on-the-map))) ∙ s .dilated
+    opening-dilation o f e (erosion-of-sum e f o (accepted-sum e f o (s .second)) ∙ normal-answer e n (cells-near e n (t .on-the-map))) ∙ s .second

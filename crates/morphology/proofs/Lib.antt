@@ -1,14 +1,21 @@
--- Theorems on dilation, erosion and opening, and what proofs of functions on them cite.
+-- Theorems on dilation, erosion, opening, closing and the n-fold forms, and what proofs of functions on them cite.
+pub mod SetLaws
 pub mod Meet
 pub mod Sums
 pub mod Differences
+pub mod Multiples
 pub mod DiagonalRows
-pub mod SetLaws
 pub mod Holes
 pub mod Operands
+pub mod OpposedOperands
+pub mod FoldedDilations
+pub mod FoldedErosions
+pub mod FewFolds
 pub mod Dilations
 pub mod Erosions
 pub mod Openings
+pub mod Closings
 pub mod Decided
 pub mod Laws
 pub mod Calls
+pub mod Widths

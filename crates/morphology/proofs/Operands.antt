@@ -25,7 +25,7 @@ pub operand : (p a : Octagon) → normalised p ≡ accepted a → Operand p a
 operand p a q =
     let t = accepted-means p a q in
     let n = reached-normal a (t .is-normalised .reached) in
-    record { answer = q; normal = n; near = cells-near a n (t .on-the-map); cells = t .same-cells }
+    record { answer = q; normal = n; near = cells-near a n (t .on-the-map); cells = t .cells }
 
 -- an operand that is not refused
 abbrev pub Valid : Octagon → Type 0

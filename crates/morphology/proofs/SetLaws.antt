@@ -1,9 +1,10 @@
 -- Laws of dilation and erosion on sets of cells. Assumes nothing.
 use mathlib.Core.Path.{_≡_, refl}
 use mathlib.Core.Logic.{_↔_}
+use Prim.Native.Nat.{ℕ, zero, suc}
 use lib.IntN.{ℤ, _+ℤ_, +ℤ-assoc, +ℤ-comm}
 use Rattle.octagon.specs.Cells.{Cells, _⊆_, _≐_, Empty, Some, LeavesMap}
-use Rattle.morphology.specs.Sets.{Dilated, Eroded}
+use Rattle.morphology.specs.Sets.{Dilated, Eroded, DilatedTimes, ErodedTimes}
 
 -- ---- sets with the same cells
 
@@ -53,6 +54,14 @@ eroded-same {A} {B} {C} {D} e f x y = (
   eroded-mono {A = A} {B = B} {C = C} {D = D} (λ x y. e x y .0) (λ x y. f x y .1) x y,
   eroded-mono {A = C} {B = D} {C = A} {D = B} (λ x y. e x y .1) (λ x y. f x y .0) x y,
 )
+
+pub dilated-times-same : (n : ℕ) {A B C D : Cells} → A ≐ C → B ≐ D → DilatedTimes n A B ≐ DilatedTimes n C D
+dilated-times-same zero e f = e
+dilated-times-same (suc n) e f = dilated-same (dilated-times-same n e f) f
+
+pub eroded-times-same : (n : ℕ) {A B C D : Cells} → A ≐ C → B ≐ D → ErodedTimes n A B ≐ ErodedTimes n C D
+eroded-times-same zero e f = e
+eroded-times-same (suc n) e f = eroded-same (eroded-times-same n e f) f
 
 -- ---- the two operations together
 

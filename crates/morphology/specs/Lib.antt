@@ -2,3 +2,4 @@
 pub mod Sets
 pub mod Operations
 pub mod Premises
+pub mod Folds

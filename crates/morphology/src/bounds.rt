@@ -1,13 +1,15 @@
 // Sums and differences of bounds, and the normal form of differences.
 ghost use mathlib.Core.Path.{_≡_};
-ghost use lib.IntN.{_+ℤ_, _-ℤ_};
+ghost use lib.IntN.{pos, _+ℤ_, _-ℤ_, _*ℤ_};
 ghost use mir.Syntax.{w32};
 ghost use mir.Val.{SFits};
 ghost use Rattle.octagon.specs.Answers.{outcome};
 ghost use Rattle.octagon.specs.NormalForm.{normalised};
 ghost use Rattle.octagon.specs.Widths.{Held};
 ghost use Rattle.morphology.specs.Operations as operations;
+ghost use Rattle.morphology.specs.Folds as folds;
 use crate::NOTHING_LEFT;
+use integers::times;
 use octagon::Answer;
 use octagon::NO_CELL;
 use octagon::Octagon;
@@ -25,6 +27,13 @@ fn subtract(a: i32, b: i32) -> i32
     ensures { λ r. ⌜ r ≡ a -ℤ b ⌝ }
 {
     a - b
+}
+
+fn multiple(n: u32, a: i32) -> i32
+    requires { ⌜ SFits w32 (pos n *ℤ a) ⌝ }
+    ensures { λ r. ⌜ r ≡ pos n *ℤ a ⌝ }
+{
+    times(n, a) as i32
 }
 
 // The sums of two octagons' bounds.
@@ -58,6 +67,23 @@ pub fn differences(a: Octagon, b: Octagon) -> Octagon
         c5: subtract(a.c5, b.c5),
         c6: subtract(a.c6, b.c6),
         c7: subtract(a.c7, b.c7),
+    }
+}
+
+// An octagon's bounds, n times each.
+pub fn multiples(n: u32, b: Octagon) -> Octagon
+    requires { ⌜ Held w32 (folds.multiples n b) ⌝ }
+    ensures { λ r. ⌜ r ≡ folds.multiples n b ⌝ }
+{
+    Octagon {
+        c0: multiple(n, b.c0),
+        c1: multiple(n, b.c1),
+        c2: multiple(n, b.c2),
+        c3: multiple(n, b.c3),
+        c4: multiple(n, b.c4),
+        c5: multiple(n, b.c5),
+        c6: multiple(n, b.c6),
+        c7: multiple(n, b.c7),
     }
 }
 

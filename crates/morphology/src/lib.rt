@@ -1,12 +1,14 @@
-// Dilation, erosion and opening of octagons (document 01's spread, trim and opening).
+// Dilation, erosion, opening and closing of octagons (document 01's spread, trim, opening and closing), and the n-fold forms.
 //
 // Each call takes any eight bounds for each operand and answers in constant time. specs/Operations.antt has the answers,
 // specs/Sets.antt the operations on sets, proofs/Dilations, Erosions, Openings and Laws the theorems between them.
 ghost use mathlib.Core.Path.{_≡_};
 ghost use Rattle.octagon.specs.Answers.{outcome};
 ghost use Rattle.morphology.specs.Operations as operations;
+ghost use Rattle.morphology.specs.Folds.{closed};
 
 mod bounds;
+pub mod folds;
 mod rows;
 
 use octagon::Answer;
@@ -60,4 +62,15 @@ pub fn opening(plot: Octagon, element: Octagon) -> Answer
         return eroded;
     };
     dilate(left, element)
+}
+
+// The dilation, and where that is accepted the erosion of what it gave.
+pub fn closing(plot: Octagon, element: Octagon) -> Answer
+    ensures { λ r. ⌜ outcome r ≡ closed plot element ⌝ }
+{
+    let dilated = dilate(plot, element);
+    let Answer::Octagon(spread) = dilated else {
+        return dilated;
+    };
+    erode(spread, element)
 }

@@ -6,7 +6,7 @@ use Prim.Native.Nat.{ℕ}
 use native.Mathlib.Omega.{arith}
 use Rattle.octagon.specs.declared.Octagon.{Octagon}
 use Rattle.octagon.specs.Outcome.{Outcome, accepted, refused, no-cell, off-map}
-use Rattle.octagon.specs.Cells.{_⊆_, _≐_, Empty, Some, In, OnMap, LeavesMap, Normalised}
+use Rattle.octagon.specs.Cells.{_⊆_, _≐_, Empty, Some, In, OnMap, LeavesMap, Normalised, Represents}
 use Rattle.octagon.specs.NormalForm.{normalised}
 use Rattle.octagon.proofs.Outcomes.{accepted-same, refused-same, accepted-not-refused}
 use Rattle.octagon.proofs.Within.{Normal, Near}
@@ -15,19 +15,13 @@ use Rattle.octagon.proofs.Map.{near-cells, cells-near}
 use Rattle.octagon.proofs.Unique.{unique}
 use Rattle.octagon.proofs.Normalising.{Normalising, is-normal, is-empty, is-off, normalising}
 
--- what an accepted answer a for the bounds c says
-pub record Accepted (c a : Octagon) : Type 0 where
-  pub same-cells : In a ≐ In c
-  pub is-normalised : Normalised a
-  pub on-the-map : In a ⊆ OnMap
-
 -- accepted: exactly the same cells, each bound reached, every cell on the map
-pub accepted-means : (c a : Octagon) → normalised c ≡ accepted a → Accepted c a
+pub accepted-means : (c a : Octagon) → normalised c ≡ accepted a → Represents a (In c)
 accepted-means c a = go (normalising c)
   where
-    go : {o : Outcome Octagon} → Normalising c o → o ≡ accepted a → Accepted c a
+    go : {o : Outcome Octagon} → Normalising c o → o ≡ accepted a → Represents a (In c)
     go (is-normal b e n m s) q =
-        rw (← accepted-same q) (record { same-cells = s; is-normalised = normal-normalised b n; on-the-map = near-cells b m })
+        rw (← accepted-same q) (record { cells = s; is-normalised = normal-normalised b n; on-the-map = near-cells b m })
     go (is-empty h) q = absurd (accepted-not-refused (sym q))
     go (is-off n h) q = absurd (accepted-not-refused (sym q))
 
@@ -88,7 +82,7 @@ pub normal-answer : (a : Octagon) → Normal a → Near a → normalised a ≡ a
 normal-answer a n m =
     let r = accepted-when a (normal-some a n) (near-cells a m) in
     let t = accepted-means a (r .0) (r .1) in
-    r .1 ∙ ap accepted (unique (t .is-normalised .reached) (normal-normalised a n .reached) (t .same-cells))
+    r .1 ∙ ap accepted (unique (t .is-normalised .reached) (normal-normalised a n .reached) (t .cells))
 
 -- so normalising an accepted answer gives it back
 pub normalised-again : (c a : Octagon) → normalised c ≡ accepted a → normalised a ≡ accepted a

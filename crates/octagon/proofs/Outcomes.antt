@@ -1,8 +1,9 @@
--- Outcomes are told apart by their cases. Assumes nothing.
-use mathlib.Core.Path.{_≡_}
+-- Outcomes are told apart by their cases, and a step after another is taken apart. Assumes nothing.
+use mathlib.Core.Path.{_≡_, refl, sym, ap}
+use mathlib.Core.Logic.{_⊎_, inl, inr}
 use Prim.Native.Nat.{ℕ}
 use native.Mathlib.Omega.{arith}
-use Rattle.octagon.specs.Outcome.{Outcome, accepted, refused}
+use Rattle.octagon.specs.Outcome.{Outcome, accepted, refused, then}
 
 pub accepted-same : {A : Type 0} {a b : A} → accepted a ≡ accepted b → a ≡ b
 accepted-same e = cc
@@ -12,3 +13,19 @@ refused-same e = cc
 
 pub accepted-not-refused : {A : Type 0} {a : A} {n : ℕ} → accepted a ≡ refused n → ⊥
 accepted-not-refused e = let z : _≡_ {A = ℕ} 0 1 = cc in omega arith
+
+-- two steps that are both accepted
+pub record Through {A B : Type 0} (o : Outcome A) (f : A → Outcome B) (b : B) : Type 0 where
+  pub between : A
+  pub first : o ≡ accepted between
+  pub second : f between ≡ accepted b
+
+pub then-accepted : {A B : Type 0} (o : Outcome A) (f : A → Outcome B) (b : B) → then o f ≡ accepted b → Through o f b
+then-accepted (accepted a) f b q = record { between = a; first = refl; second = q }
+then-accepted (refused k) f b q = absurd (accepted-not-refused (sym q))
+
+-- a refusal of two steps is the first's, or the second's after an accepted first
+pub then-refused : {A B : Type 0} (o : Outcome A) (f : A → Outcome B) (k : ℕ) → then o f ≡ refused k →
+    (o ≡ refused k) ⊎ ((a : A) × (o ≡ accepted a) × (f a ≡ refused k))
+then-refused (accepted a) f k q = inr (a, refl, q)
+then-refused (refused n) f k q = inl (ap refused (refused-same q))

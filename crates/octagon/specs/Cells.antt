@@ -71,3 +71,9 @@ pub record Reached (c : Octagon) : Type 0 where
 pub record Normalised (c : Octagon) : Type 0 where
   pub some : Some (In c)
   pub reached : Reached c
+
+-- the octagon a stands for the set A: it has the cells of A, its bounds are normalised, and it is on the map
+pub record Represents (a : Octagon) (A : Cells) : Type 0 where
+  pub cells : In a ≐ A
+  pub is-normalised : Normalised a
+  pub on-the-map : In a ⊆ OnMap

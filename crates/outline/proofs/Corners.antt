@@ -1,14 +1,14 @@
 -- The corners of an accepted outline, in the words of document 01: where they lie, and which the start is. Assumes nothing.
 use mathlib.Core.Path.{_≡_, ap}
-use mathlib.Core.List.{List, [], _∷_}
+use mathlib.Core.List.{[], _∷_}
 use mathlib.Core.Logic.{_↔_}
 use Prim.Native.Nat.{ℕ, _+_, _%_, _<_, _≤_}
 use native.Mathlib.Omega.{arith}
 use lib.IntN.{ℤ, pos, negℤ, _+ℤ_, _-ℤ_}
 use lib.ListN.{getD}
 use lib.Signed.{_≤ℤ_}
-use Rattle.integers.proofs.Parts.{up, dn, sum-parts, diff-parts, neg-up, neg-dn, eq-parts, parts-eq, parts-le}
-use Rattle.integers.proofs.Linear.{Diff, #, _⊕_, neg, lit, _≼_, _≈_, same}
+use Rattle.integers.proofs.Parts.{sum-parts, diff-parts, neg-up, neg-dn, eq-parts, parts-eq, parts-le}
+use Rattle.integers.proofs.Linear.{#, _⊕_, neg, _≈_, same}
 use Rattle.octagon.specs.declared.Octagon.{Octagon}
 use Rattle.octagon.specs.Outcome.{accepted}
 use Rattle.octagon.specs.Cells.{Cells, In}
@@ -20,7 +20,7 @@ use Rattle.outline.specs.Walk.{vertex}
 use Rattle.outline.specs.Tracing.{drawn, traced}
 use Rattle.outline.proofs.Steps.{eight}
 use Rattle.outline.proofs.Tracings.{accepted-drawn, accepted-means}
-use Rattle.outline.proofs.Drawn.{Walked, Reached, walked, reached}
+use Rattle.outline.proofs.Drawn.{walked, reached}
 
 -- the cell (x, y) reaches bound k
 abbrev pub Reaches : Octagon → ℕ → Cells

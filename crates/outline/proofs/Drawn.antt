@@ -1,12 +1,12 @@
 -- The bounds of an outline as linear facts, and that they are normalised where it closes. Assumes nothing.
 use mathlib.Core.Path.{_≡_}
 use mathlib.Core.Bool.{true}
-use Prim.Native.Nat.{ℕ, _+_, _≤_}
+use Prim.Native.Nat.{_+_}
 use native.Mathlib.Omega.{arith}
-use lib.IntN.{ℤ, pos, negℤ, _+ℤ_, _-ℤ_}
+use lib.IntN.{negℤ}
 use mir.Syntax.{w32}
-use Rattle.integers.proofs.Parts.{up, dn, sum-parts, diff-parts, neg-up, neg-dn}
-use Rattle.integers.proofs.Linear.{Diff, #, _⊕_, neg, lit, _≼_, _≈_}
+use Rattle.integers.proofs.Parts.{sum-parts, diff-parts, neg-up, neg-dn}
+use Rattle.integers.proofs.Linear.{#, _⊕_, neg, lit, _≈_}
 use Rattle.octagon.specs.declared.Octagon.{Octagon}
 use Rattle.octagon.specs.NormalForm.{is-on-map}
 use Rattle.octagon.specs.Widths.{Held}

@@ -1,15 +1,15 @@
 -- The start and the sides of normalised bounds on the map fit 32 bits. Assumes nothing.
 use mathlib.Core.Path.{_≡_}
-use Prim.Native.Nat.{ℕ, _+_, _*_, _^_, _<_, _≤_}
+use Prim.Native.Nat.{ℕ, _*_, _≤_}
 use native.Mathlib.Omega.{arith}
 use lib.Dec.{T}
-use lib.IntN.{ℤ, pos, negsuc, natAbs, negℤ, _+ℤ_, _-ℤ_}
+use lib.IntN.{ℤ, pos, negsuc, natAbs, negℤ, _-ℤ_}
 use lib.Signed.{_≤ℤ_, nonNeg, yes-nonNeg}
 use mir.Syntax.{w32, w64}
 use mir.Val.{Fits, SFits, toZ, ofZ}
 use mir.Facts.{toZ-ofZ}
 use Rattle.integers.proofs.Parts.{up, dn, diff-parts, neg-up, neg-dn, le-parts}
-use Rattle.integers.proofs.Linear.{Diff, #, _⊕_, neg, lit, _≼_, _≈_}
+use Rattle.integers.proofs.Linear.{#, _⊕_, lit, _≼_}
 use Rattle.integers.proofs.Range.{room-near, room-fits32}
 use Rattle.octagon.specs.declared.Octagon.{Octagon}
 use Rattle.octagon.specs.Cells.{limit}

@@ -8,3 +8,6 @@ pub mod Tracings
 pub mod Corners
 pub mod Lengths
 pub mod RoundTrips
+pub mod Over
+pub mod Metres
+pub mod Computed

@@ -1,9 +1,9 @@
 -- "Normalised bounds and a boundary code turn into each other without loss." Assumes nothing.
 use mathlib.Core.Path.{_≡_, refl, sym, _∙_, ap}
 use mathlib.Core.Logic.{_↔_}
-use Prim.Native.Nat.{ℕ, _+_, _≤_}
+use Prim.Native.Nat.{ℕ}
 use native.Mathlib.Omega.{arith}
-use lib.IntN.{ℤ, pos, negsuc, natAbs, negℤ, _-ℤ_}
+use lib.IntN.{ℤ, pos, negsuc, natAbs}
 use Rattle.integers.proofs.Parts.{up, dn, diff-parts, neg-up, neg-dn, parts-eq}
 use Rattle.integers.proofs.Linear.{Diff, #, _⊕_, neg, lit, _≼_, _≈_}
 use Rattle.octagon.specs.declared.Octagon.{Octagon}

@@ -6,8 +6,9 @@ use Rattle.integers.proofs.Range.{told}
 use Rattle.octagon.specs.Outcome.{accepted}
 use Rattle.octagon.specs.NormalForm.{normalised, placed}
 use Rattle.octagon.specs.Answers.{outcome}
-use Rattle.morphology.proofs.Calls.{is-accepted, is-refused, dilation-of-rows, dilation-of-others, sums-held}
+use Rattle.morphology.proofs.Calls.{is-accepted, is-refused, dilation-of-rows, dilation-of-others}
 use Rattle.morphology.proofs.Dilations.{dilation-first, dilation-second}
+use Rattle.morphology.proofs.Widths.{sums-held}
 use Rattle.morphology.proofs.dilate.Statement.{statement}
 use Rattle.morphology.proofs.dilate.Tie as tie
 

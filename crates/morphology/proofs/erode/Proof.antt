@@ -5,8 +5,9 @@ use Rattle.octagon.specs.Outcome.{accepted}
 use Rattle.octagon.specs.NormalForm.{normalised}
 use Rattle.octagon.specs.Answers.{outcome}
 use Rattle.morphology.specs.Operations.{fitting}
-use Rattle.morphology.proofs.Calls.{is-accepted, is-refused, erosion-of, differences-held}
+use Rattle.morphology.proofs.Calls.{is-accepted, is-refused, erosion-of}
 use Rattle.morphology.proofs.Erosions.{erosion-first, erosion-second}
+use Rattle.morphology.proofs.Widths.{differences-held}
 use Rattle.morphology.proofs.erode.Statement.{statement}
 use Rattle.morphology.proofs.erode.Tie as tie
 

@@ -1,9 +1,6 @@
 -- `to_outline` meets its contract: a refusal of `normalise` is handed on. Assumes nothing.
-use mathlib.Core.Path.{_≡_, sym}
+use mathlib.Core.Path.{sym}
 use borrow.Author.Needs.{needs}
-use Rattle.octagon.specs.declared.Octagon.{Octagon}
-use Rattle.octagon.specs.Outcome.{accepted, refused}
-use Rattle.octagon.specs.NormalForm.{normalised}
 use Rattle.outline.specs.Outlining.{outlined, outline-of}
 use Rattle.outline.proofs.Lengths.{accepted-sized}
 use Rattle.outline.proofs.to_outline.Statement.{statement}

@@ -1,16 +1,13 @@
 -- `outline_of` meets its contract: eight calls, and the start. Assumes nothing.
-use mathlib.Core.Path.{_≡_, _∙_, ap}
-use lib.IntN.{pos, _-ℤ_, +ℤ-idl}
+use mathlib.Core.Path.{ap}
+use lib.IntN.{+ℤ-idl}
 use mir.Syntax.{w32}
-use mir.Val.{toZ, ofZ}
 use mir.Facts.{toZ-ofZ}
 use borrow.Author.Needs.{needs}
 use Rattle.integers.proofs.Range.{signs}
-use Rattle.octagon.specs.declared.Octagon.{Octagon}
 use Rattle.octagon.specs.NormalForm.{sides}
 use Rattle.octagon.specs.Widths.{Held}
 use Rattle.octagon.proofs.Fields.{back, back-is}
-use Rattle.outline.specs.declared.Outline.{Outline}
 use Rattle.outline.specs.Outlining.{Sized, outline-of}
 use Rattle.outline.proofs.sides.outline_of.Statement.{statement}
 use Rattle.outline.proofs.sides.outline_of.Tie as tie

@@ -1,0 +1,55 @@
+-- Short names for the plots of document 01's squared-paper cases, and for what a case compares. Assumes nothing.
+use Prim.Native.Nat.{ℕ}
+use lib.IntN.{ℤ, pos}
+use Rattle.octagon.specs.declared.Octagon.{Octagon}
+use Rattle.octagon.specs.Outcome.{Outcome, accepted, refused, then}
+use Rattle.outline.specs.declared.Outline.{Outline}
+use Rattle.outline.specs.Tracing.{traced}
+use Rattle.morphology.specs.Operations.{dilation, erosion, opened}
+
+-- eight bounds c0 to c7
+abbrev pub bounds : ℤ → ℤ → ℤ → ℤ → ℤ → ℤ → ℤ → ℤ → Octagon
+bounds c0 c1 c2 c3 c4 c5 c6 c7 = record { c0 = c0; c1 = c1; c2 = c2; c3 = c3; c4 = c4; c5 = c5; c6 = c6; c7 = c7 }
+
+-- the outline that starts at (i, j), with sides n0 to n7
+abbrev pub outline : ℤ → ℤ → ℕ → ℕ → ℕ → ℕ → ℕ → ℕ → ℕ → ℕ → Outline
+outline i j n0 n1 n2 n3 n4 n5 n6 n7 =
+    record { i = i; j = j; n0 = n0; n1 = n1; n2 = n2; n3 = n3; n4 = n4; n5 = n5; n6 = n6; n7 = n7 }
+
+-- an outline that starts at (0, 0)
+abbrev pub from-origin : ℕ → ℕ → ℕ → ℕ → ℕ → ℕ → ℕ → ℕ → Outline
+from-origin = outline (pos 0) (pos 0)
+
+-- the 6-cell block, the 3 by 3 block, and the pieces K2, K4 and K13
+abbrev pub block : Outline
+block = from-origin 2 0 1 0 2 0 1 0
+
+abbrev pub three-by-three : Outline
+three-by-three = from-origin 2 0 2 0 2 0 2 0
+
+abbrev pub K2 : Outline
+K2 = from-origin 0 1 0 0 0 1 0 0
+
+abbrev pub K4 : Outline
+K4 = from-origin 0 0 0 1 0 0 0 1
+
+abbrev pub K13 : Outline
+K13 = from-origin 0 1 0 1 0 1 0 1
+
+-- one cell
+abbrev pub cell : ℤ → ℤ → Outline
+cell x y = outline x y 0 0 0 0 0 0 0 0
+
+-- an operation on the octagons of two outlines
+abbrev pub by : (Octagon → Octagon → Outcome Octagon) → Outcome Octagon → Outline → Outcome Octagon
+by f p e = then p (λ a. then (traced e) (f a))
+
+-- spread, trim and opening, of a plot by a frame
+abbrev pub spread : Outcome Octagon → Outline → Outcome Octagon
+spread = by dilation
+
+abbrev pub trim : Outcome Octagon → Outline → Outcome Octagon
+trim = by erosion
+
+abbrev pub open-by : Outcome Octagon → Outline → Outcome Octagon
+open-by = by opened

@@ -1,0 +1,29 @@
+-- A natural multiple of an integer, by its parts. Assumes nothing.
+use Prim.Native.Nat.{ℕ, suc, _*_, _≤_}
+use native.Mathlib.Nat.{mul-zero, suc-mul, mul-le-mul}
+use native.Mathlib.Omega.{arith}
+use lib.IntN.{ℤ, pos, negsuc, _*ℤ_}
+use Rattle.integers.proofs.Parts.{up, dn, neg-up, neg-dn}
+use Rattle.integers.proofs.Linear.{Diff, #, _⊕_, neg, lit, _≼_, _≈_}
+use Rattle.integers.proofs.Range.{near-parts}
+
+-- a multiple of a difference
+abbrev pub mul : ℕ → Diff → Diff
+mul n d = record { p = n * d .p; n = n * d .n }
+
+pub times-parts : (n : ℕ) (z : ℤ) → # (pos n *ℤ z) ≈ mul n (# z)
+unfolding up dn
+times-parts n (pos m) = omega (arith, mul-zero n)
+times-parts n (negsuc m) = omega (arith, mul-zero n, neg-up (pos (n * suc m)), neg-dn (pos (n * suc m)))
+
+-- one more multiple
+pub times-suc : (n : ℕ) (z : ℤ) → # (pos (suc n) *ℤ z) ≈ # (pos n *ℤ z) ⊕ # z
+times-suc n z = omega (arith, times-parts (suc n) z, times-parts n z, suc-mul n (up z), suc-mul n (dn z))
+
+-- at most m times a number that is at most k from 0
+pub times-near : (n m k : ℕ) (z : ℤ) → n ≤ m → # z ≼ lit k → neg (# z) ≼ lit k → (# (pos n *ℤ z) ≼ lit (m * k)) × (neg (# (pos n *ℤ z)) ≼ lit (m * k))
+times-near n m k z l h j =
+    let p = near-parts k z h j in
+    let u = mul-le-mul {n₁ = n} {m₁ = up z} {n₂ = m} {m₂ = k} l (p .0) in
+    let d = mul-le-mul {n₁ = n} {m₁ = dn z} {n₂ = m} {m₂ = k} l (p .1) in
+    (omega (arith, times-parts n z), omega (arith, times-parts n z))

@@ -1,0 +1,59 @@
+// n-fold dilation and erosion, in constant time whatever n is (document 01's n-fold spread and trim).
+ghost use mathlib.Core.Path.{_≡_};
+ghost use Rattle.octagon.specs.Answers.{outcome};
+ghost use Rattle.morphology.specs.Folds as spec;
+use crate::OPPOSED_ROWS;
+use crate::bounds::differences;
+use crate::bounds::fit;
+use crate::bounds::multiples;
+use crate::bounds::sums;
+use crate::rows::are_opposed;
+use octagon::Answer;
+use octagon::Octagon;
+use octagon::normalise;
+use octagon::place;
+
+// The most folds of a call.
+pub const FOLD_LIMIT: u32 = 65_535;
+
+// The refusal number of document 01 that this file adds.
+pub const TOO_MANY_FOLDS: u32 = 6;
+
+// The plot dilated n times by the element.
+pub fn dilate_n(plot: Octagon, element: Octagon, n: u32) -> Answer
+    ensures { λ r. ⌜ outcome r ≡ spec.dilation-n plot element n ⌝ }
+{
+    if FOLD_LIMIT < n {
+        return Answer::Refused(TOO_MANY_FOLDS);
+    }
+    let first = normalise(plot);
+    let Answer::Octagon(a) = first else {
+        return first;
+    };
+    let second = normalise(element);
+    let Answer::Octagon(b) = second else {
+        return second;
+    };
+    if (0 < n) & are_opposed(a, b) {
+        return Answer::Refused(OPPOSED_ROWS);
+    }
+    place(sums(a, multiples(n, b)))
+}
+
+// The plot eroded n times by the element.
+pub fn erode_n(plot: Octagon, element: Octagon, n: u32) -> Answer
+    ensures { λ r. ⌜ outcome r ≡ spec.erosion-n plot element n ⌝ }
+{
+    if FOLD_LIMIT < n {
+        return Answer::Refused(TOO_MANY_FOLDS);
+    }
+    let first = normalise(plot);
+    let Answer::Octagon(a) = first else {
+        return first;
+    };
+    let second = normalise(element);
+    let Answer::Octagon(b) = second else {
+        return second;
+    };
+    fit(differences(a, multiples(n, b)))
+}

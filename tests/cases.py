@@ -1,0 +1,132 @@
+#!/usr/bin/env python3
+"""Works out what crates/cases prints, on its own: python3 tests/cases.py > crates/cases/stdout
+
+An octagon's set is taken row by row: in row y the cells run from the greatest of three lower limits to the least of three upper
+limits. Both are piecewise linear in y, the width of a row is concave, and so is the greatest value of x, x-y, x+y and their
+opposites in a row. So the rows that have a cell are found from the widest row by bisection, and each tight bound by ternary search
+over them. None of this uses the library's normal form.
+"""
+
+LIMIT = 16000
+MIN, MAX = -2**31, 2**31 - 1
+
+
+def ends(c, y):
+    return max(-c[6], y - c[5], -c[7] - y), min(c[2], c[1] + y, c[3] - y)
+
+
+def peak(f, low, high):
+    """A place of the greatest value of a concave function on whole numbers."""
+    while high - low > 2:
+        a = low + (high - low) // 3
+        b = high - (high - low) // 3
+        if f(a) < f(b):
+            low = a + 1
+        elif f(a) > f(b):
+            high = b - 1
+        else:
+            low, high = a, b
+    return max(range(low, high + 1), key=f)
+
+
+def first(test, low, high):
+    """The first place in low..high that passes a test which, once passed, stays so; high passes it."""
+    while low < high:
+        mid = (low + high) // 2
+        if test(mid):
+            high = mid
+        else:
+            low = mid + 1
+    return low
+
+
+def normal(c):
+    """The tight bounds, or a refusal number."""
+    low, high = -c[0], c[4]
+    if low > high:
+        return 1
+
+    def width(y):
+        a, b = ends(c, y)
+        return b - a
+
+    # rows of equal width but another parity may lie beside the peak
+    top = peak(width, low, high)
+    rows = [y for y in range(max(low, top - 3), min(high, top + 3) + 1) if width(y) >= 0]
+    if not rows:
+        return 1
+    mid = rows[0]
+    bottom = first(lambda y: width(y) >= 0, low, mid)
+    up = -first(lambda y: width(-y) >= 0, -high, -mid)
+
+    def most(f):
+        return f(peak(f, bottom, up))
+
+    t = (
+        -bottom,
+        most(lambda y: ends(c, y)[1] - y),
+        most(lambda y: ends(c, y)[1]),
+        most(lambda y: ends(c, y)[1] + y),
+        up,
+        most(lambda y: -ends(c, y)[0] + y),
+        most(lambda y: -ends(c, y)[0]),
+        most(lambda y: -ends(c, y)[0] - y),
+    )
+    return 2 if max(t[0], t[2], t[4], t[6]) > LIMIT else t
+
+
+def show(answer):
+    return "refused %d" % answer if isinstance(answer, int) else " ".join(map(str, answer))
+
+
+def around(cells):
+    """The tight bounds of a few cells, or refusal 2."""
+    if any(max(abs(x), abs(y)) > LIMIT for x, y in cells):
+        return 2
+    forms = (
+        lambda x, y: -y, lambda x, y: x - y, lambda x, y: x, lambda x, y: x + y,
+        lambda x, y: y, lambda x, y: y - x, lambda x, y: -x, lambda x, y: -x - y,
+    )
+    return tuple(max(f(x, y) for x, y in cells) for f in forms)
+
+
+def sums(a, b):
+    return {(x + v, y + w) for x, y in a for v, w in b}
+
+
+def main():
+    print("cell (16000,0) spread by (0,0):", show(around(sums({(16000, 0)}, {(0, 0)}))))
+    print("cell (16000,0) spread by (1,0):", show(around(sums({(16000, 0)}, {(1, 0)}))))
+    cells = {(0, 0)}
+    for _ in range(65535):
+        cells = sums(cells, {(0, 0)})
+    print("origin spread 65535 times by itself:", show(around(cells)))
+    print("origin spread 65536 times by itself:", show(6))
+    # the block's cells and those of K13, summed; corner 2 is where the sides n1 and n2 meet: the lowest of the rightmost cells
+    block = {(x, y) for x in range(3) for y in range(2)}
+    star = {(0, 0), (1, 1), (-1, 1), (0, 2), (0, 1)}
+    spread = sums(block, star)
+    right = max(x for x, _ in spread)
+    corner = (right, min(y for x, y in spread if x == right))
+    print("corner 2 is 0.75 east, 0.25 north:", "yes" if (corner[0] / 4, corner[1] / 4) == (0.75, 0.25) else "no")
+    for c in (
+        (MIN,) * 8,
+        (MAX,) * 8,
+        (MAX, MIN) * 4,
+        (MIN, MAX) * 4,
+        (MIN, MIN, MAX, MAX, MAX, MAX, MAX, MAX),
+        (MAX, MAX, MAX, MAX, MIN, MIN, MIN, MIN),
+        (MAX, MAX, MIN, MAX, MAX, MAX, MAX, MAX),
+        (16000, MAX, 16000, MAX, 16000, MAX, 16000, MAX),
+        (16000, MAX, 16001, MAX, 16000, MAX, 16000, MAX),
+        (MAX, 0, MAX, 1, MAX, 0, MAX, -1),
+        (MAX, 0, MAX, 0, MAX, 0, MAX, 0),
+        (MAX, -3, MAX, MAX, MAX, 3, 0, 7),
+        (-5, -3, MAX, MAX, 5, MAX, 0, -7),
+        (MAX, 7, MAX, 8, MAX, 7, MAX, 8),
+    ):
+        print("normalise %s:" % " ".join(map(str, c)), show(normal(c)))
+
+
+if __name__ == "__main__":
+    main()
