@@ -58,7 +58,7 @@ outline-split c o e =
       start-j = refl;
       by-rule = one-choice o (t .closed) (counts o) .1 refl;
       one-choice = λ k h. one-choice o (t .closed) k .0 h;
-      rebuilds = same-trans (rw (tracings.accepted-drawn o a (r .2)) (rebuild o (t .closed))) (m .same-cells);
+      rebuilds = same-trans (rw (tracings.accepted-drawn o a (r .2)) (rebuild o (t .closed))) (m .cells);
     }
 
 pub accepted-means : (c : Octagon) (s : Split) → decomposition c ≡ accepted s → Accepted c s
