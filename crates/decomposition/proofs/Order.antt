@@ -10,19 +10,15 @@ use Rattle.octagon.specs.Cells.{Cells, _⊆_, _≐_}
 use Rattle.outline.specs.declared.Outline.{Outline}
 use Rattle.outline.specs.Walk.{InsideWalk}
 use Rattle.morphology.specs.Sets.{Dilated, DilatedTimes}
-use Rattle.morphology.proofs.SetLaws.{same-refl, same-trans, dilated-same}
+use Rattle.morphology.proofs.SetLaws.{same-refl, same-trans, dilated-same, dilated-times-same}
 use Rattle.decomposition.specs.Pieces.{DilatedByEach}
 
 -- ---- sets with the same cells
 
-pub times-same : {A C : Cells} (k : ℕ) (B : Cells) → A ≐ C → DilatedTimes k A B ≐ DilatedTimes k C B
-times-same zero B e = e
-times-same (suc k) B e = dilated-same (times-same k B e) (same-refl B)
-
 each-same : {A C : Cells} (ks : List ℕ) (ps : List Outline) → A ≐ C → DilatedByEach ks ps A ≐ DilatedByEach ks ps C
 each-same [] ps e = e
 each-same (k ∷ ks) [] e = e
-each-same (k ∷ ks) (p ∷ ps) e = each-same ks ps (times-same k (InsideWalk p) e)
+each-same (k ∷ ks) (p ∷ ps) e = each-same ks ps (dilated-times-same k e (same-refl (InsideWalk p)))
 
 -- ---- the order of two sets is free
 

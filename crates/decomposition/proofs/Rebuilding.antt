@@ -14,7 +14,7 @@ use Rattle.outline.specs.Closing.{Closes}
 use Rattle.outline.specs.Walk.{InsideWalk}
 use Rattle.outline.specs.Tracing.{drawn}
 use Rattle.morphology.specs.Sets.{DilatedTimes}
-use Rattle.morphology.proofs.SetLaws.{same-trans}
+use Rattle.morphology.proofs.SetLaws.{same-refl, same-trans, dilated-times-same}
 use Rattle.decomposition.specs.declared.Start.{Start}
 use Rattle.decomposition.specs.declared.Counts.{Counts}
 use Rattle.decomposition.specs.Pieces.{shown, pieces, piece-of, listed, Only, DilatedByEach, Rebuilt}
@@ -23,7 +23,7 @@ use Rattle.decomposition.specs.Splitting.{first-counts, is-crossed, join
 use Rattle.decomposition.proofs.Sides.{SameSides, made}
 use Rattle.decomposition.proofs.Choice.{counts-made}
 use Rattle.decomposition.proofs.LastStep.{crossed-test}
-use Rattle.decomposition.proofs.Order.{times-same, put-last}
+use Rattle.decomposition.proofs.Order.{put-last}
 use Rattle.decomposition.proofs.Added.{AtOrigin, plus, plus-each}
 use Rattle.decomposition.proofs.Exact.{Exact, rises, falls, Free, exact-same, exact-times, AllBroad, exact-each, cell-at, exact-start}
 
@@ -132,7 +132,7 @@ module _ (k : Counts) (s : Start) where
       let A = DilatedTimes (k .k1) (Only s) (InsideWalk (piece-of 0)) in
       same-trans
       (put-last A (InsideWalk K2) (k .k2) (k .k3 ∷ k .k4 ∷ later-counts k) (piece-of 2 ∷ K4 ∷ later))
-      (times-same (k .k2) (InsideWalk K2) (put-last (DilatedTimes (k .k3) A (InsideWalk (piece-of 2))) (InsideWalk K4) (k .k4) (later-counts k) later))
+      (dilated-times-same (k .k2) (put-last (DilatedTimes (k .k3) A (InsideWalk (piece-of 2))) (InsideWalk K4) (k .k4) (later-counts k) later) (same-refl (InsideWalk K2)))
 
   abbrev sides : Outline
   sides = plus-each (broad-counts k) broads (cell-at s)
