@@ -6,7 +6,7 @@ use Prim.Native.Nat.{ℕ, suc, _+_, _*_}
 use native.Mathlib.Nat.{suc-mul}
 use native.Mathlib.Omega.{arith}
 use Rattle.integers.proofs.Parts.{parts-eq}
-use Rattle.integers.proofs.Linear.{#, _⊕_, neg, lit, _≈_}
+use Rattle.integers.proofs.Linear.{#, lit, _≈_}
 use Rattle.octagon.specs.declared.Octagon.{Octagon}
 use Rattle.octagon.proofs.Unique.{equal}
 use Rattle.outline.specs.declared.Outline.{Outline}

@@ -9,7 +9,6 @@ use Rattle.octagon.specs.NormalForm.{normalised}
 use Rattle.octagon.proofs.Outcomes.{accepted-same, accepted-not-refused}
 use Rattle.octagon.proofs.NormalForms as normal
 use Rattle.outline.specs.declared.Outline.{Outline}
-use Rattle.outline.specs.Tracing.{drawn}
 use Rattle.outline.specs.Outlining.{outlined}
 use Rattle.outline.proofs.Tracings as tracings
 use Rattle.outline.proofs.RoundTrips.{outline-octagon, outlined-refusals}

@@ -3,14 +3,12 @@ use mathlib.Core.Path.{_≡_, refl}
 use Prim.Native.Nat.{ℕ}
 use lib.IntN.{pos}
 use Rattle.integers.specs.Minimum.{minℤ, halfℤ}
-use Rattle.octagon.specs.declared.Octagon.{Octagon}
 use Rattle.octagon.specs.Outcome.{accepted}
 use Rattle.octagon.specs.NormalForm.{even-bound, odd-bound, tight-even, tight-odd, normal-form, sides, has-cell, is-on-map, placed, normalised}
 use Rattle.outline.specs.declared.Outline.{Outline}
 use Rattle.outline.specs.Walk.{vertex}
 use Rattle.outline.specs.Tracing.{bounds-at, drawn}
 use Rattle.outline.specs.Outlining.{outline-of, outlined}
-use Rattle.decomposition.specs.declared.Counts.{Counts}
 use Rattle.decomposition.specs.declared.Split.{Split}
 use Rattle.decomposition.specs.Splitting.{rest, triangles-of, with-rows, first-counts, is-crossed, joined, counts, split-of, decomposition}
 

@@ -1,11 +1,11 @@
 -- A set of cells is dilated by pieces in any order. Assumes nothing.
-use mathlib.Core.Path.{_≡_, refl, ap}
+use mathlib.Core.Path.{_≡_, refl}
 use mathlib.Core.List.{List, [], _∷_}
 use Prim.Native.Nat.{ℕ, zero, suc}
 use native.Mathlib.Omega.{arith}
 use lib.IntN.{ℤ, _+ℤ_}
 use Rattle.integers.proofs.Parts.{sum-parts, eq-parts}
-use Rattle.integers.proofs.Linear.{#, _⊕_, same}
+use Rattle.integers.proofs.Linear.{#, same}
 use Rattle.octagon.specs.Cells.{Cells, _⊆_, _≐_}
 use Rattle.outline.specs.declared.Outline.{Outline}
 use Rattle.outline.specs.Walk.{InsideWalk}

@@ -1,12 +1,11 @@
 -- The start cell dilated by the counted pieces is the octagon of the outline. The diagonal rows K2 and K4 are put last: what the other
 -- pieces make is then opposed to neither. Assumes nothing.
 use mathlib.Core.Path.{_≡_, refl, sym, _∙_}
-use mathlib.Core.List.{List, [], _∷_}
-use Prim.Native.Nat.{ℕ, _+_, _*_, _≤_}
+use mathlib.Core.List.{List, _∷_}
+use Prim.Native.Nat.{ℕ, _+_, _≤_}
 use native.Mathlib.Omega.{arith}
 use lib.ListN.{drop}
 use Rattle.integers.proofs.Parts.{up, dn}
-use Rattle.integers.proofs.Linear.{#, lit, _≈_}
 use Rattle.integers.proofs.Tests.{cases, true-is-not-false}
 use Rattle.octagon.specs.Cells.{Cells, _≐_, In}
 use Rattle.outline.specs.declared.Outline.{Outline}

@@ -1,7 +1,7 @@
 -- What the rows of an outline leave of it, and the triangles that make this rest: there are some, of two kinds, and no others. Assumes
 -- nothing.
 use mathlib.Core.Path.{_≡_}
-use Prim.Native.Nat.{ℕ, _+_, _*_, min, _≤_}
+use Prim.Native.Nat.{ℕ, _+_, min, _≤_}
 use native.Mathlib.Decide.{decLe}
 use native.Mathlib.Omega.{arith}
 use Rattle.outline.specs.declared.Outline.{Outline}

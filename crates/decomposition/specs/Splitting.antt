@@ -1,6 +1,6 @@
 -- The decomposition of an octagon: definitions that compute. proofs/Decompositions.antt says what they mean. Assumes nothing.
 use mathlib.Core.Bool.{Bool, cond, _&&_}
-use Prim.Native.Nat.{ℕ, _-_, min}
+use Prim.Native.Nat.{_-_, min}
 use lib.Dec.{ltb, eqb}
 use lib.IntN.{pos}
 use Rattle.octagon.specs.declared.Octagon.{Octagon}

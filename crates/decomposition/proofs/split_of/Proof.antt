@@ -1,5 +1,4 @@
 -- `split_of` meets its contract: the start is read back as it was. Assumes nothing.
-use lib.IntN.{ℤ}
 use mir.Syntax.{w32}
 use mir.Val.{SFits}
 use mir.Facts.{toZ-ofZ}
