@@ -1,0 +1,6 @@
+-- Laws of bytes and of records in bytes.
+pub mod Splices
+pub mod Moves
+pub mod Numbers
+pub mod Rows
+pub mod Order
