@@ -2,5 +2,6 @@
 pub mod Splices
 pub mod Moves
 pub mod Numbers
+pub mod Steps
 pub mod Rows
 pub mod Order

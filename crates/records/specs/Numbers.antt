@@ -1,10 +1,10 @@
 -- Numbers in bytes, the lowest byte first (document 01: little-endian), signed ones in two's complement; and numbers in
 -- fields of given widths, one after the other. Assumes nothing.
 use Prim.Native.Nat.{ℕ, zero, suc, _+_, _-_, _*_, _/_, _%_, _^_}
-use mathlib.Core.Bool.{cond}
+use mathlib.Core.Bool.{Bool, true, cond, _&&_}
 use mathlib.Core.List.{List, [], _∷_, _++_}
 use lib.ListN.{take, drop}
-use lib.Dec.{ltb}
+use lib.Dec.{leb, ltb}
 use lib.IntN.{ℤ, pos, negsuc, _-ℤ_}
 
 -- the number that bytes are
@@ -29,6 +29,11 @@ twos w (negsuc n) = 256 ^ w - suc n
 abbrev pub total : List ℕ → ℕ
 total [] = 0
 total (w ∷ ws) = w + total ws
+
+-- no field is wider than a number of 32 bits
+abbrev pub narrow : List ℕ → Bool
+narrow [] = true
+narrow (w ∷ ws) = leb w 4 && narrow ws
 
 abbrev pub unpacked : List ℕ → List ℕ → List ℕ
 unpacked [] s = []

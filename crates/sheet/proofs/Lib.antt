@@ -1,0 +1,2 @@
+-- Theorems on sheets.
+pub mod TwosComplement

@@ -1,0 +1,1 @@
+-- What the contracts on sheets cite.

@@ -1,0 +1,2 @@
+// Sheets of plots in lent buffers.
+mod numbers;
