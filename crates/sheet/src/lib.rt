@@ -1,2 +1,3 @@
 // Sheets of plots in lent buffers.
 mod numbers;
+mod rows;
