@@ -1,0 +1,12 @@
+-- `closes` meets its contract: four sums and two tests. Assumes nothing.
+use Rattle.outline.specs.Closing.{closes}
+use Rattle.outline.proofs.closing.closes.Statement.{statement}
+use Rattle.outline.proofs.closing.closes.Tie as tie
+
+returns : tie.Need-returns
+unfolding closes
+returns c =
+    rw (c .before .before .before .sum3 .ensures, c .before .before .sum32 .ensures, c .before .sum33 .ensures, c .sum34 .ensures)
+
+pub closes-spec : {M : Type 1} → statement M
+closes-spec = tie.close (tie.spec (λ c κs. tt) (λ c κs. tt) (λ c κs. tt) (λ c κs. tt) returns)

@@ -1,0 +1,48 @@
+-- The walk round an outline and the cells inside it, in the words of document 01. This file is what a reader must believe of outlines.
+-- Assumes nothing.
+use mathlib.Core.List.{List, [], _∷_}
+use Prim.Native.Nat.{ℕ, zero, suc, _<_}
+use lib.IntN.{ℤ, pos, negsuc, _+ℤ_, _-ℤ_, _*ℤ_}
+use lib.ListN.{getD}
+use lib.Signed.{_≤ℤ_}
+use Rattle.octagon.specs.Cells.{Cells}
+use Rattle.outline.specs.declared.Outline.{Outline}
+use Rattle.outline.specs.declared.walk.Cell.{Cell}
+
+-- the steps d0 to d7, each east and north, counter-clockwise
+abbrev pub steps : List (List ℤ)
+steps =
+    (pos 1 ∷ pos 0 ∷ []) ∷
+    (pos 1 ∷ pos 1 ∷ []) ∷
+    (pos 0 ∷ pos 1 ∷ []) ∷
+    (negsuc 0 ∷ pos 1 ∷ []) ∷
+    (negsuc 0 ∷ pos 0 ∷ []) ∷
+    (negsuc 0 ∷ negsuc 0 ∷ []) ∷
+    (pos 0 ∷ negsuc 0 ∷ []) ∷
+    (pos 1 ∷ negsuc 0 ∷ []) ∷ []
+
+abbrev pub east : ℕ → ℤ
+east k = getD (getD steps k []) 0 (pos 0)
+
+abbrev pub north : ℕ → ℤ
+north k = getD (getD steps k []) 1 (pos 0)
+
+-- the length of side k
+abbrev pub side : Outline → ℕ → ℕ
+side o k = getD (o .n0 ∷ o .n1 ∷ o .n2 ∷ o .n3 ∷ o .n4 ∷ o .n5 ∷ o .n6 ∷ o .n7 ∷ []) k 0
+
+-- the corners of the walk: corner 0 is the start, corner k+1 is corner k moved n(k) steps along d(k)
+unfoldable pub vertex : Outline → ℕ → Cell
+vertex o zero = record { x = o .i; y = o .j }
+vertex o (suc k) = record {
+  x = vertex o k .x +ℤ east k *ℤ pos (side o k);
+  y = vertex o k .y +ℤ north k *ℤ pos (side o k);
+}
+
+-- the cell (x, y) lies on the line from the cell v along d(k), or to its left
+abbrev pub LeftOf : ℕ → Cell → Cells
+LeftOf k v x y = pos 0 ≤ℤ (east k *ℤ (y -ℤ v .y) -ℤ north k *ℤ (x -ℤ v .x))
+
+-- the cells inside a counter-clockwise walk: those that lie on or to the left of each of its sides
+abbrev pub InsideWalk : Outline → Cells
+InsideWalk o x y = (k : ℕ) → k < 8 → LeftOf k (vertex o k) x y

@@ -1,0 +1,26 @@
+// Whether an outline closes.
+ghost use mathlib.Core.Path.{_≡_};
+ghost use Prim.Native.Nat.{_+_};
+ghost use Rattle.outline.specs.Closing as closing;
+use crate::Outline;
+
+// The sum of three lengths, which always fits.
+fn sum3(a: u32, b: u32, c: u32) -> u64
+    ensures { λ r. ⌜ r ≡ a + b + c ⌝ }
+{
+    (a as u64) + (b as u64) + (c as u64)
+}
+
+pub fn closes(o: Outline) -> bool
+    ensures { λ r. ⌜ r ≡ closing.closes o ⌝ }
+{
+    let n0 = o.n0;
+    let n1 = o.n1;
+    let n2 = o.n2;
+    let n3 = o.n3;
+    let n4 = o.n4;
+    let n5 = o.n5;
+    let n6 = o.n6;
+    let n7 = o.n7;
+    (sum3(n0, n1, n7) == sum3(n3, n4, n5)) & (sum3(n1, n2, n3) == sum3(n5, n6, n7))
+}
