@@ -1,19 +1,19 @@
--- Numbers in bytes: a part read byte by byte, the way there and back, and numbers in fields. Assumes nothing.
+-- Numbers in bytes: a part read byte by byte, the way there and back, and two's complement. Assumes nothing.
 use mathlib.Core.Path.{_≡_, refl, sym, ap, _∙_}
 use mathlib.Core.Bool.{cond, true, false}
-use mathlib.Core.List.{List, [], _∷_, _++_, append-assoc, append-nil}
+use mathlib.Core.List.{List, [], _∷_}
 use Prim.Native.Nat.{ℕ, zero, suc, _+_, _-_, _*_, _/_, _%_, _^_, _≤_, _<_}
 use native.Mathlib.Omega.{arith}
 use native.Mathlib.Nat.{pow-suc, one-le-pow}
 use native.Mathlib.Numerals.{add-one}
-use lib.ListN.{length, take, drop, getD, length-append, length-drop, List·getD-eq-default}
-use lib.Seq.{drop-cons, drop-drop, take-nil, take-at, drop-at, take-add}
+use lib.ListN.{length, take, drop, getD}
+use lib.Seq.{drop-cons}
 use lib.Dec.{ltb}
 use lib.IntN.{ℤ, pos, negsuc, _-ℤ_}
 use lib.Signed.{mag}
 use borrow.Author.Tests.{lt-ltb, le-ltb}
 use Rattle.integers.proofs.Parts.{up, dn, diff-parts, parts-eq}
-use Rattle.records.specs.Numbers.{number, bytes, signed, twos, total, packed, unpacked}
+use Rattle.records.specs.Numbers.{number, bytes, signed, twos}
 use Rattle.records.specs.Parts.{part}
 
 -- ---- reading
@@ -32,13 +32,13 @@ Bytes s = (i : ℕ) → getD s i 0 < 256
 tail-bytes : (b : ℕ) (s : List ℕ) → Bytes (b ∷ s) → Bytes s
 tail-bytes b s h i = h (suc i)
 
-drop-bytes : (n : ℕ) (s : List ℕ) → Bytes s → Bytes (drop n s)
+pub drop-bytes : (n : ℕ) (s : List ℕ) → Bytes s → Bytes (drop n s)
 drop-bytes zero s h = h
 drop-bytes (suc n) [] h = h
 drop-bytes (suc n) (b ∷ s) h = drop-bytes n s (tail-bytes b s h)
 
 -- w bytes hold a number below 256 ^ w
-number-take : (w : ℕ) (s : List ℕ) → Bytes s → number (take w s) < 256 ^ w
+pub number-take : (w : ℕ) (s : List ℕ) → Bytes s → number (take w s) < 256 ^ w
 number-take zero s h = omega arith
 number-take (suc w) [] h = one-le-pow (suc w) 256 (omega arith)
 number-take (suc w) (b ∷ s) h = rw pow-suc (omega (arith, h 0, number-take w s (tail-bytes b s h)))
@@ -82,28 +82,3 @@ pub twos-below : (w : ℕ) (z : ℤ) → mag z < 256 ^ suc w / 2 → twos (suc w
 unfolding twos
 twos-below w (pos n) h = omega arith
 twos-below w (negsuc n) h = omega (arith, one-le-pow (suc w) 256 (omega arith))
-
--- ---- fields
-
--- as many numbers as fields, each within its width
-pub data Fit : List ℕ → List ℕ → Type 0 where
-  none : Fit [] []
-  more : {w v : ℕ} {ws vs : List ℕ} → v < 256 ^ w → Fit ws vs → Fit (w ∷ ws) (v ∷ vs)
-
-pub length-packed : (ws vs : List ℕ) → length ws ≡ length vs → length (packed ws vs) ≡ total ws
-length-packed [] vs e = refl
-length-packed (w ∷ ws) [] e = absurd (omega arith)
-length-packed (w ∷ ws) (v ∷ vs) e = length-append (bytes w v) (packed ws vs) ∙ omega (arith, length-bytes w v, length-packed ws vs (omega arith))
-
--- numbers that were written are read again
-pub unpacked-packed : {ws vs : List ℕ} (z : List ℕ) → Fit ws vs → unpacked ws (packed ws vs ++ z) ≡ vs
-unpacked-packed z none = refl
-unpacked-packed z (more {w = w} {v = v} {ws = ws} {vs = vs} h f) =
-    let e = append-assoc (bytes w v) (packed ws vs) z in
-    rw (e, take-at (bytes w v) (packed ws vs ++ z) w (length-bytes w v), drop-at (bytes w v) (packed ws vs ++ z) w (length-bytes w v), number-bytes w v h, unpacked-packed z f)
-
--- and bytes that were read are written again
-pub packed-unpacked : (ws s : List ℕ) → Bytes s → total ws ≤ length s → packed ws (unpacked ws s) ≡ take (total ws) s
-packed-unpacked [] s h l = refl
-packed-unpacked (w ∷ ws) s h l =
-    rw (bytes-number w s h (omega arith), packed-unpacked ws (drop w s) (drop-bytes w s h) (rw length-drop (omega arith)), take-add)

@@ -13,7 +13,7 @@ use Rattle.records.proofs.Rows.{key-at}
 
 -- ---- the order is kept
 
-or-false : (x y : Bool) → x || y ≡ false → (x ≡ false) × (y ≡ false)
+pub or-false : (x y : Bool) → x || y ≡ false → (x ≡ false) × (y ≡ false)
 or-false true y e = absurd (let z : _≡_ {A = ℕ} 0 1 = cc in omega arith)
 or-false false y e = (refl, e)
 

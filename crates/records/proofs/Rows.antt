@@ -10,6 +10,7 @@ use lib.Seq.{take-add, drop-drop, take-nil, take-take, drop-at, take-at, length-
 use lib.Dec.{ltb}
 use Rattle.records.specs.Numbers.{number}
 use Rattle.records.specs.Parts.{part, between}
+use Rattle.records.proofs.Parts.{between-part}
 use Rattle.records.specs.Rows.{records, joined, key-width, key, place, placed}
 
 -- ---- multiples of the record length
@@ -21,23 +22,11 @@ pub mul-pred : (L n : ℕ) → 0 < n → L * n ≡ L + L * (n - 1)
 mul-pred L zero h = absurd (omega arith)
 mul-pred L (suc n) h = let e : suc n - 1 ≡ n = omega arith in rw e (omega (arith, mul-suc L n))
 
--- ---- one record
-
--- a part of a part
-pub part-part : (s : List ℕ) (at L o w : ℕ) → o + w ≤ L → part (part s at L) o w ≡ part s (at + o) w
-part-part s at L o w h = rw (← drop-drop o at s) (part-take (drop at s) L o w h)
-  where
-    part-take : (s : List ℕ) (L o w : ℕ) → o + w ≤ L → part (take L s) o w ≡ part s o w
-    part-take s L zero w h = take-take w L s (omega arith)
-    part-take s zero (suc o) w h = absurd (omega arith)
-    part-take [] (suc L) (suc o) w h = refl
-    part-take (b ∷ s) (suc L) (suc o) w h = part-take s L o w (omega arith)
+-- ---- records and their bytes
 
 -- the number of the record at an index is the number there
 pub key-at : (L : ℕ) (s : List ℕ) (at : ℕ) → key-width ≤ L → key (part s at L) ≡ number (part s at key-width)
 key-at L s at h = ap number (take-take key-width L (drop at s) h)
-
--- ---- records and their bytes
 
 -- n records' bytes are the L * n bytes from there
 pub joined-records : (L : ℕ) (s : List ℕ) (at n : ℕ) → joined (records L s at n) ≡ part s at (L * n)
@@ -123,13 +112,6 @@ joined-placed L s at (suc n) r =
         let e₂ : at + (L + L * k) ≡ at + L + L * k = omega arith in
         rw (h, e₁, e₂, suc-sub-suc, take-add, drop-drop) (simp append-assoc)
     pick false k js h = rw (mul-zero, add-zero, sub-zero) (ap (λ (x : List ℕ). r ++ x) (joined-records L s at (suc n)))
-
--- a part by its ends is a part by its start and its length
-pub between-part : (f t : ℕ) (s : List ℕ) → between s f t ≡ part s f (t - f)
-between-part zero t s = rw sub-zero
-between-part (suc f) zero s = rw zero-sub
-between-part (suc f) (suc t) [] = sym (take-nil (suc t - suc f))
-between-part (suc f) (suc t) (x ∷ s) = rw suc-sub-suc (between-part f t s)
 
 -- the bytes up to the end of n records, with r put in at its place
 pub placed-bytes : (L : ℕ) (s : List ℕ) (f n : ℕ) (r : List ℕ)

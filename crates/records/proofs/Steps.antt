@@ -13,7 +13,8 @@ use borrow.Author.Tests.{leb-true}
 use Rattle.integers.proofs.Tests.{both-true}
 use Rattle.records.specs.Numbers.{number, bytes, total, narrow, packed, unpacked}
 use Rattle.records.specs.Parts.{part, splice}
-use Rattle.records.proofs.Numbers.{number-suc, length-bytes, length-packed}
+use Rattle.records.proofs.Numbers.{number-suc, length-bytes}
+use Rattle.records.proofs.Fields.{length-packed}
 use Rattle.records.proofs.Splices.{splice-append, splice-cons}
 
 -- ---- a number, from its highest byte down

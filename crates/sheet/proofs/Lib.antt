@@ -1,2 +1,4 @@
 -- Theorems on sheets.
 pub mod TwosComplement
+pub mod RecordBytes
+pub mod Frames
