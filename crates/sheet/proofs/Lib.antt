@@ -2,3 +2,4 @@
 pub mod TwosComplement
 pub mod RecordBytes
 pub mod Frames
+pub mod Surveys

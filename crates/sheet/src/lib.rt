@@ -6,6 +6,7 @@ ghost use mathlib.Core.Path.{_≡_};
 ghost use Rattle.sheet.specs.Answers.{«count-of»};
 use outline::Outline;
 
+mod checking;
 mod encoding;
 mod numbers;
 mod rows;
