@@ -3,3 +3,6 @@ pub mod TwosComplement
 pub mod RecordBytes
 pub mod Frames
 pub mod Surveys
+pub mod Checks
+pub mod Starts
+pub mod Inserts

@@ -2,3 +2,4 @@
 pub mod Layout
 pub mod Answers
 pub mod Checking
+pub mod Writing

@@ -3,11 +3,14 @@
 // specs/Layout.antt has the bytes of a record and of a trailer, specs/Checking.antt what `check` and `fetch` answer,
 // specs/Writing.antt what `start` and `insert` answer and leave in the buffer.
 ghost use mathlib.Core.Path.{_≡_};
-ghost use Rattle.sheet.specs.Answers.{«count-of»};
+ghost use Rattle.sheet.specs.Answers.{«count-of», «record-of», «length-of»};
+ghost use Rattle.sheet.specs.Checking.{checked, fetched};
+ghost use Rattle.sheet.specs.Writing.{started, «after-start», inserted, «after-insert»};
 use outline::Outline;
 
 mod checking;
 mod encoding;
+mod inserting;
 mod numbers;
 mod rows;
 mod trailer;
@@ -55,3 +58,48 @@ pub const BAD_NUMBER: u32 = 11;
 pub const NO_ROOM: u32 = 12;
 
 pub const NO_RECORD: u32 = 13;
+
+// How many records the sheet in the first `len` bytes has. Refuses a wrong length, wrong marks in the trailer, a wrong distance,
+// and then for each record in order a wrong number and the refusals of its outline.
+pub fn check(sheet: &[u8], len: usize) -> Checked
+    ensures { λ r. ⌜ «count-of» r ≡ checked (now (sheet .entry)) len ⌝ }
+{
+    let stated = trailer::frame(sheet, len);
+    let Checked::Count(c) = stated else {
+        return stated;
+    };
+    checking::survey(sheet, len - TRAILER - RECORD * (c as usize), c)
+}
+
+// Record k, counted from 0. The refusals of the check, and then k not below the count.
+pub fn fetch(sheet: &[u8], len: usize, k: u32) -> Fetched
+    ensures { λ r. ⌜ «record-of» r ≡ fetched (now (sheet .entry)) len k ⌝ }
+{
+    match check(sheet, len) {
+        Checked::Refused(e) => Fetched::Refused(e),
+        Checked::Count(c) => {
+            if k < c {
+                let first = len - TRAILER - RECORD * (c as usize);
+                Fetched::Record(encoding::record_at(sheet, first + RECORD * (k as usize)))
+            } else {
+                Fetched::Refused(NO_RECORD)
+            }
+        }
+    }
+}
+
+// Starts a sheet of no records after `heading` bytes, and answers its length. Refuses a sheet that is too long, then one that
+// the buffer has no room for.
+pub fn start(sheet: &mut [u8], heading: usize) -> Written
+    ensures { λ r. ⌜ («length-of» r ≡ started (now (sheet .entry)) heading) × (now (sheet .exit) ≡ «after-start» (now (sheet .entry)) heading) ⌝ }
+{
+    if LIMIT - TRAILER < heading {
+        return Written::Refused(BAD_LENGTH);
+    }
+    let next = heading + TRAILER;
+    if sheet.len() < next {
+        return Written::Refused(NO_ROOM);
+    }
+    trailer::put_trailer(sheet, heading, 0);
+    Written::Length(next)
+}
