@@ -6,3 +6,4 @@ pub mod Surveys
 pub mod Checks
 pub mod Starts
 pub mod Inserts
+pub mod Outlines

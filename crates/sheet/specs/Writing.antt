@@ -40,9 +40,13 @@ admitted s len v c =
     cond (eqb v 0 || present v (rows s len c)) (refused bad-number)
     (cond (ltb (length s) (len + record-length) || ltb sheet-limit (len + record-length)) (refused no-room) (accepted c))
 
--- the number of records that a sheet has before an insert that is not refused: the outline's refusals, the check's, 11 and 12
+-- the number of records that a sheet has where it may take one with the number v: the check's refusals, 11 and 12
+unfoldable pub vetted : List ℕ → ℕ → ℕ → Outcome ℕ
+vetted s len v = then (checked s len) (admitted s len v)
+
+-- and where the record r may go in: the outline's refusals first
 unfoldable pub insertion : List ℕ → ℕ → Record → Outcome ℕ
-insertion s len r = then (traced (r .outline)) (λ _. then (checked s len) (admitted s len (r .number)))
+insertion s len r = then (traced (r .outline)) (λ _. vetted s len (r .number))
 
 -- what `insert` answers: the new length
 unfoldable pub inserted : List ℕ → ℕ → Record → Outcome ℕ

@@ -6,6 +6,7 @@ ghost use mathlib.Core.Path.{_≡_};
 ghost use Rattle.sheet.specs.Answers.{«count-of», «record-of», «length-of»};
 ghost use Rattle.sheet.specs.Checking.{checked, fetched};
 ghost use Rattle.sheet.specs.Writing.{started, «after-start», inserted, «after-insert»};
+use octagon::Answer;
 use outline::Outline;
 
 mod checking;
@@ -102,4 +103,16 @@ pub fn start(sheet: &mut [u8], heading: usize) -> Written
     }
     trailer::put_trailer(sheet, heading, 0);
     Written::Length(next)
+}
+
+// Inserts a record by its number, and answers the new length. The refusals of its outline and of the check, then a number that
+// is 0 or that a record has, then a sheet that has no room.
+pub fn insert(sheet: &mut [u8], len: usize, r: Record) -> Written
+    ensures { λ a. ⌜ («length-of» a ≡ inserted (now (sheet .entry)) len r) × (now (sheet .exit) ≡ «after-insert» (now (sheet .entry)) len r) ⌝ }
+{
+    let o = r.outline;
+    match outline::to_octagon(o) {
+        Answer::Refused(e) => Written::Refused(e),
+        Answer::Octagon(_) => inserting::insert_traced(sheet, len, r),
+    }
 }
