@@ -1,12 +1,12 @@
 -- The bounds of an outline as linear facts, and that they are normalised where it closes. Assumes nothing.
 use mathlib.Core.Path.{_≡_}
 use mathlib.Core.Bool.{true}
-use Prim.Native.Nat.{ℕ, _+_, _≤_}
+use Prim.Native.Nat.{_+_}
 use native.Mathlib.Omega.{arith}
-use lib.IntN.{ℤ, pos, negℤ, _+ℤ_, _-ℤ_}
+use lib.IntN.{negℤ}
 use mir.Syntax.{w32}
-use Rattle.integers.proofs.Parts.{up, dn, sum-parts, diff-parts, neg-up, neg-dn}
-use Rattle.integers.proofs.Linear.{Diff, #, _⊕_, neg, lit, _≼_, _≈_}
+use Rattle.integers.proofs.Parts.{sum-parts, diff-parts, neg-up, neg-dn}
+use Rattle.integers.proofs.Linear.{#, _⊕_, neg, lit, _≈_}
 use Rattle.octagon.specs.declared.Octagon.{Octagon}
 use Rattle.octagon.specs.NormalForm.{is-on-map}
 use Rattle.octagon.specs.Widths.{Held}
@@ -92,9 +92,23 @@ pub reached : (o : Outline) → Reached (drawn o) (vertex o 1) (vertex o 3) (ver
 unfolding drawn
 reached o = bounds-reached (vertex o 1) (vertex o 3) (vertex o 5) (vertex o 7)
 
--- an outline that closes has normalised bounds
+-- the bounds of an outline that closes, from its start and its lengths
+pub record Drawn (o : Outline) (c : Octagon) : Type 0 where
+  pub b0 : # (c .c0) ≈ neg (# (o .j))
+  pub b1 : # (c .c1) ≈ # (o .i) ⊕ neg (# (o .j)) ⊕ lit (o .n0)
+  pub b2 : # (c .c2) ≈ # (o .i) ⊕ lit (o .n0 + o .n1)
+  pub b3 : # (c .c3) ≈ # (o .i) ⊕ # (o .j) ⊕ lit (o .n0 + o .n1 + o .n1 + o .n2)
+  pub b4 : # (c .c4) ≈ # (o .j) ⊕ lit (o .n1 + o .n2 + o .n3)
+  pub b5 : # (c .c5) ≈ # (o .j) ⊕ neg (# (o .i)) ⊕ lit (o .n6 + o .n7 + o .n7)
+  pub b6 : # (c .c6) ≈ neg (# (o .i)) ⊕ lit (o .n7)
+  pub b7 : # (c .c7) ≈ neg (# (o .i)) ⊕ neg (# (o .j))
+
+pub closed-drawn : (o : Outline) → Closes o → Drawn o (drawn o)
+closed-drawn o k = let w = walked o in let r = reached o in omega arith
+
+-- so they are normalised
 pub closed-normal : (o : Outline) → Closes o → Normal (drawn o)
-closed-normal o k = let w = walked o in let r = reached o in omega arith
+closed-normal o k = let d = closed-drawn o k in omega arith
 
 -- and on the map they fit 32 bits
 pub closed-held : (o : Outline) → closes o ≡ true → is-on-map (drawn o) ≡ true → Held w32 (drawn o)

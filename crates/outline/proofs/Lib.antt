@@ -3,3 +3,11 @@ pub mod Steps
 pub mod Range
 pub mod Closed
 pub mod Drawn
+pub mod Inside
+pub mod Tracings
+pub mod Corners
+pub mod Lengths
+pub mod RoundTrips
+pub mod Over
+pub mod Metres
+pub mod Computed

@@ -1,5 +1,4 @@
 -- How far a walk can go: from a start and lengths of 32 bits every corner is far within 64. Assumes nothing.
-use mathlib.Core.Path.{_≡_}
 use Prim.Native.Nat.{ℕ, zero, suc, _+_, _*_, _^_, _<_, _≤_}
 use native.Mathlib.Nat.{mul-le-mul-right, lt-of-le-of-lt}
 use native.Mathlib.Omega.{arith}
@@ -9,7 +8,7 @@ use mir.Syntax.{w32, w64}
 use mir.Val.{Fits, SFits}
 use Rattle.integers.specs.Range.{Room}
 use Rattle.integers.proofs.Parts.{up, dn, sum-up, sum-dn, neg-up, neg-dn}
-use Rattle.integers.proofs.Range.{room, room-fits, room-i32, room-parts}
+use Rattle.integers.proofs.Range.{room, room-i32, room-parts}
 use Rattle.outline.specs.declared.Outline.{Outline}
 use Rattle.outline.specs.declared.walk.Cell.{Cell}
 use Rattle.outline.specs.Walk.{east, north, side, vertex}

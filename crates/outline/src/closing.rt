@@ -11,6 +11,7 @@ fn sum3(a: u32, b: u32, c: u32) -> u64
     (a as u64) + (b as u64) + (c as u64)
 }
 
+// Whether as many columns are walked forth as back, and as many rows up as down.
 pub fn closes(o: Outline) -> bool
     ensures { λ r. ⌜ r ≡ closing.closes o ⌝ }
 {

@@ -1,13 +1,21 @@
-// Outlines of octagons, the field's boundary code (B-code), and their octagons.
+// Outlines, the field's boundary code (B-code), to octagons and back, and the vertices of an octagon in metres.
 //
-// specs/Tracing.antt has what `to_octagon` answers, specs/Walk.antt the walk round an outline and the cells inside it.
+// specs/Walk.antt has the walk round an outline and the cells inside it; specs/Tracing.antt, Outlining.antt and Places.antt what the three
+// calls answer; proofs/Tracings.antt, Corners.antt, RoundTrips.antt and Metres.antt the theorems between them.
 ghost use mathlib.Core.Path.{_≡_};
 ghost use Rattle.octagon.specs.Answers.{outcome as «octagon-outcome»};
 ghost use Rattle.outline.specs.Tracing.{traced};
+ghost use Rattle.outline.specs.Outlining.{outlined, outcome};
+ghost use Rattle.outline.specs.Places.{located, outcome as «place-outcome»};
 use octagon::Answer;
+use octagon::Octagon;
+use place::Place;
 
 mod closing;
+mod corner;
 mod drawing;
+pub mod place;
+mod sides;
 mod walk;
 
 // Document 01's outline: the start, its lowest corner and of the lowest the leftmost, and eight side lengths, counter-clockwise.
@@ -24,8 +32,34 @@ pub struct Outline {
     pub n7: u32,
 }
 
+// An outline, or the number of the refusal.
+pub enum Traced {
+    Outline(Outline),
+    Refused(u32),
+}
+
+// A place, or the number of the refusal.
+pub enum Located {
+    Place(Place),
+    Refused(u32),
+}
+
+// The steps along the sides, each east and north: document 01's d0 to d7.
+pub const STEPS: [[i32; 2]; 8] = [
+    [1, 0],
+    [1, 1],
+    [0, 1],
+    [-1, 1],
+    [-1, 0],
+    [-1, -1],
+    [0, -1],
+    [1, -1],
+];
+
 // The refusal numbers of document 01 that this crate adds.
 pub const NOT_CLOSED: u32 = 3;
+
+pub const NO_VERTEX: u32 = 7;
 
 // The octagon of an outline. Refuses one that does not close, then one with a cell off the map.
 pub fn to_octagon(o: Outline) -> Answer
@@ -35,4 +69,24 @@ pub fn to_octagon(o: Outline) -> Answer
         return drawing::placed(drawing::draw(o));
     }
     Answer::Refused(NOT_CLOSED)
+}
+
+// The outline of any eight bounds: that of their normal form. Refuses what `normalise` refuses.
+pub fn to_outline(o: Octagon) -> Traced
+    ensures { λ r. ⌜ outcome r ≡ outlined o ⌝ }
+{
+    match octagon::normalise(o) {
+        Answer::Octagon(a) => Traced::Outline(sides::outline_of(a)),
+        Answer::Refused(n) => Traced::Refused(n),
+    }
+}
+
+// Document 01's corner in metres: vertex k of the octagon of any eight bounds. Refuses what `normalise` refuses, then a k above 7.
+pub fn vertex_place(o: Octagon, k: u32) -> Located
+    ensures { λ r. ⌜ «place-outcome» r ≡ located o k ⌝ }
+{
+    match to_outline(o) {
+        Traced::Outline(t) => corner::corner_place(t, k),
+        Traced::Refused(n) => Located::Refused(n),
+    }
 }

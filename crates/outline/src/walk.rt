@@ -7,18 +7,7 @@ ghost use mir.Syntax.{w64};
 ghost use mir.Val.{SFits};
 ghost use Rattle.outline.specs.Walk as walk;
 use crate::Outline;
-
-// The steps along the sides, each east and north: document 01's d0 to d7.
-pub const STEPS: [[i32; 2]; 8] = [
-    [1, 0],
-    [1, 1],
-    [0, 1],
-    [-1, 1],
-    [-1, 0],
-    [-1, -1],
-    [0, -1],
-    [1, -1],
-];
+use crate::STEPS;
 
 // Document 01's cell.
 pub struct Cell {

@@ -1,15 +1,13 @@
 -- `to_octagon` meets its contract: the bounds of an outline that closes fit where they are on the map. Assumes nothing.
 use mathlib.Core.Path.{_≡_, _∙_}
 use mathlib.Core.Bool.{true, false}
-use mir.Syntax.{w32}
 use Rattle.integers.proofs.Range.{told}
 use Rattle.octagon.specs.declared.Octagon.{Octagon}
 use Rattle.octagon.specs.Outcome.{refused}
-use Rattle.octagon.specs.NormalForm.{is-on-map, placed}
-use Rattle.octagon.specs.Widths.{Held}
+use Rattle.octagon.specs.NormalForm.{placed}
 use Rattle.outline.specs.declared.Outline.{Outline}
 use Rattle.outline.specs.Closing.{closes}
-use Rattle.outline.specs.Tracing.{octagon-of, drawn, traced, not-closed}
+use Rattle.outline.specs.Tracing.{drawn, traced, not-closed}
 use Rattle.outline.proofs.Drawn.{closed-held}
 use Rattle.outline.proofs.to_octagon.Statement.{statement}
 use Rattle.outline.proofs.to_octagon.Tie as tie

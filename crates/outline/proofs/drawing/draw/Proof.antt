@@ -1,7 +1,7 @@
 -- `draw` meets its contract: four corners, and eight sums of their coordinates that fit. Assumes nothing.
 use mathlib.Core.Path.{_≡_, _∙_}
 use native.Mathlib.Omega.{arith}
-use lib.IntN.{ℤ, pos, _+ℤ_, _-ℤ_, negℤ, +ℤ-idl}
+use lib.IntN.{ℤ, pos, _+ℤ_, _-ℤ_, +ℤ-idl}
 use mir.Syntax.{w64}
 use mir.Val.{toZ, ofZ}
 use mir.Facts.{toZ-ofZ}
@@ -98,11 +98,25 @@ draw-spec =
     (λ c κs. omega arith)
     (λ c κs. omega arith)
     (λ c κs. omega arith)
-    (λ c. let r = room1 (c .before .before .before .before .before) in room-fits (negated (r .room-y)))
-    (λ c. let r = room1 (c .before .before .before .before .before .before .before) in room-fits (room-add (room-back (r .room-x)) (room-neg (room-back (r .room-y)))))
-    (λ c. let r = room3 (c .before .before .before .before .before .before .before .before) in room-fits (room-add (room-back (r .room-x)) (room-back (r .room-y))))
-    (λ c. let r = room5 (c .before .before .before .before .before .before .before .before .before) in room-fits (room-add (room-back (r .room-y)) (room-neg (room-back (r .room-x)))))
-    (λ c. let r = room7 (c .before .before .before .before .before .before .before .before .before .before) in room-fits (negated (r .room-x)))
-    (λ c. let r = room7 (c .before .before .before .before .before .before .before .before .before .before .before .before) in room-fits (negated (r .room-x)))
-    (λ c. let r = room7 (c .before .before .before .before .before .before .before .before .before .before .before .before .before .before) in room-fits (room-add (room-back (negated (r .room-x))) (room-neg (room-back (room-less (r .room-y))))))
+    (λ c.
+    let r = room1 (c .before .before .before .before .before) in
+    room-fits (negated (r .room-y)))
+    (λ c.
+    let r = room1 (c .before .before .before .before .before .before .before) in
+    room-fits (room-add (room-back (r .room-x)) (room-neg (room-back (r .room-y)))))
+    (λ c.
+    let r = room3 (c .before .before .before .before .before .before .before .before) in
+    room-fits (room-add (room-back (r .room-x)) (room-back (r .room-y))))
+    (λ c.
+    let r = room5 (c .before .before .before .before .before .before .before .before .before) in
+    room-fits (room-add (room-back (r .room-y)) (room-neg (room-back (r .room-x)))))
+    (λ c.
+    let r = room7 (c .before .before .before .before .before .before .before .before .before .before) in
+    room-fits (negated (r .room-x)))
+    (λ c.
+    let r = room7 (c .before .before .before .before .before .before .before .before .before .before .before .before) in
+    room-fits (negated (r .room-x)))
+    (λ c.
+    let r = room7 (c .before .before .before .before .before .before .before .before .before .before .before .before .before .before) in
+    room-fits (room-add (room-back (negated (r .room-x))) (room-neg (room-back (room-less (r .room-y))))))
     returns)

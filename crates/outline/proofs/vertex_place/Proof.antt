@@ -1,0 +1,25 @@
+-- `vertex_place` meets its contract: a refusal of `to_outline` is handed on. Assumes nothing.
+use mathlib.Core.Path.{sym, _∙_}
+use borrow.Author.Needs.{needs}
+use Rattle.outline.specs.Places.{located}
+use Rattle.outline.proofs.Metres.{corner-fits}
+use Rattle.outline.proofs.vertex_place.Statement.{statement}
+use Rattle.outline.proofs.vertex_place.Tie as tie
+
+corner-place-requires : tie.Need-corner-place-requires
+corner-place-requires c κs =
+    corner-fits (c .before .before .before .before .args .o) _ (rw (c .before .t .given .1) at (sym (c .before .before .before .to-outline .ensures)))
+
+returns : tie.Need-returns
+unfolding located
+returns c =
+    c .corner-place .ensures ∙ rw (← (c .before .before .before .before .to-outline .ensures), c .before .before .t .given .1)
+
+returns-2 : tie.Need-returns-2
+unfolding located
+returns-2 c = rw (← (c .before .before .before .to-outline .ensures), c .before .n .given .1)
+
+pub vertex-place-spec : {M : Type 1} → statement M
+vertex-place-spec =
+    tie.close
+    (tie.spec (λ c κs. tt) (λ c. search needs) corner-place-requires (λ c. search needs) returns returns-2)

@@ -1,0 +1,22 @@
+// The place of a corner of an outline.
+ghost use mathlib.Core.Path.{_≡_};
+ghost use Prim.Native.Nat.{ℕ, _<_};
+ghost use Rattle.outline.specs.Walk as walk;
+ghost use Rattle.outline.specs.Places as places;
+use crate::Located;
+use crate::NO_VERTEX;
+use crate::Outline;
+use crate::place::place_of;
+use crate::walk::vertex;
+
+// Corner k in metres, where the corners fit 32 bits. Refuses a number above 7.
+pub fn corner_place(o: Outline, k: u32) -> Located
+    requires { ⌜ ((n : ℕ) → n < 8 → places.Fitting (walk.vertex o n)) ⌝ }
+    ensures { λ r. ⌜ places.outcome r ≡ places.corner-place o k ⌝ }
+{
+    if k > 7 {
+        return Located::Refused(NO_VERTEX);
+    }
+    let v = vertex(o, k as usize);
+    Located::Place(place_of(v.x as i32, v.y as i32))
+}
