@@ -1,5 +1,6 @@
 -- The check of a sheet from its frame and its records, and the record that is fetched. Assumes nothing.
 use mathlib.Core.Path.{_≡_, refl, sym, ap, _∙_}
+use mathlib.Core.Bool.{true, false}
 use mathlib.Core.List.{List, []}
 use Prim.Native.Nat.{ℕ, _+_, _-_, _*_, _≤_, _<_}
 use native.Mathlib.Omega.{arith}
@@ -11,9 +12,9 @@ use Rattle.records.specs.Parts.{part}
 use Rattle.records.specs.Rows.{Rising}
 use Rattle.records.proofs.Rows.{record-at}
 use Rattle.sheet.specs.declared.Record.{Record}
-use Rattle.sheet.specs.Layout.{record-length, decoded}
-use Rattle.sheet.specs.Answers.{no-record}
-use Rattle.sheet.specs.Checking.{framed, Framed, first, rows, surveyed, checked, fetched}
+use Rattle.sheet.specs.Layout.{record-length, trailer-length, trailer-at, decoded}
+use Rattle.sheet.specs.Answers.{bad-length, bad-trailer, bad-distance, no-record}
+use Rattle.sheet.specs.Checking.{wrong-length, wrong-marks, wrong-distance, stated, framed, Framed, first, rows, surveyed, checked, fetched}
 use Rattle.sheet.proofs.Frames.{framed-known}
 use Rattle.sheet.proofs.Surveys.{Traced, surveyed-when, surveyed-passed}
 
@@ -26,6 +27,21 @@ checked-frame s len e = rw e
 pub checked-rows : {c : ℕ} (s : List ℕ) (len : ℕ) → framed s len ≡ accepted c → checked s len ≡ surveyed c 0 (rows s len c)
 unfolding checked
 checked-rows s len e = rw e
+
+-- the refusals of the frame, from its tests
+module _ (s : List ℕ) (len : ℕ) where
+  pub size-refused : wrong-length s len ≡ true → checked s len ≡ refused bad-length
+  unfolding framed
+  size-refused a = checked-frame s len (rw a)
+
+  pub marks-refused : wrong-length s len ≡ false → wrong-marks (trailer-at s (len - trailer-length)) ≡ true → checked s len ≡ refused bad-trailer
+  unfolding framed stated
+  marks-refused a b = checked-frame s len (rw (a, b))
+
+  pub place-refused : wrong-length s len ≡ false → wrong-marks (trailer-at s (len - trailer-length)) ≡ false
+      → wrong-distance len (trailer-at s (len - trailer-length)) ≡ true → checked s len ≡ refused bad-distance
+  unfolding framed stated
+  place-refused a b d = checked-frame s len (rw (a, b, d))
 
 -- an accepted check has an accepted frame and good records, and the other way round
 pub record Good (s : List ℕ) (len c : ℕ) : Type 0 where

@@ -7,3 +7,4 @@ pub mod Checks
 pub mod Starts
 pub mod Inserts
 pub mod Outlines
+pub mod CheckCases

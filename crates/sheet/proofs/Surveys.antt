@@ -61,7 +61,7 @@ module _ (c before : ℕ) (s : List ℕ) (p : ℕ) where
 abbrev pub Traced : List ℕ → Type 0
 Traced b = (o : Octagon) × (traced (decoded b .outline) ≡ accepted o)
 
-judged-when : (before : ℕ) (b : List ℕ) → before < key b → Traced b → judged before b ≡ accepted (key b)
+pub judged-when : (before : ℕ) (b : List ℕ) → before < key b → Traced b → judged before b ≡ accepted (key b)
 unfolding judged
 judged-when before b h t = rw (lt-ltb before (key b) h, t .1)
 
