@@ -5,6 +5,7 @@ use mathlib.Core.List.{List, [], _∷_}
 use Prim.Native.Nat.{ℕ, zero, suc, _+_, _-_, _*_, _≤_, _<_}
 use native.Mathlib.Omega.{arith}
 use lib.Dec.{ltb, eqb}
+use lib.ListN.{length, getD}
 use borrow.Author.Tests.{lt-ltb, le-ltb, eq-eqb, ne-eqb, ltb-true, ltb-false, eqb-false}
 use Rattle.records.specs.Numbers.{number}
 use Rattle.records.specs.Parts.{part}
@@ -58,3 +59,46 @@ module _ (L : ℕ) (s : List ℕ) (p n v : ℕ) (h : key-width ≤ L) (k : 0 < n
 
   pub present-on : (number (part s p key-width) ≡ v → ⊥) → present v (records L s p n) ≡ present v (records L s (p + L) (n - 1))
   present-on q = rw (present-more L s p n v h k, ne-eqb (number (part s p key-width)) v q)
+
+-- ---- the records one by one, with one more
+
+-- those before its place are as they were
+pub placed-before : (r : List ℕ) (rs : List (List ℕ)) (k : ℕ) → k < place (key r) rs → getD (placed r rs) k [] ≡ getD rs k []
+placed-before r [] k h = absurd (omega arith)
+placed-before r (a ∷ rs) k h = pick (ltb (key a) (key r)) k (placed-before r rs) h
+  where
+    pick : (b : Bool) (k : ℕ) → ((k : ℕ) → k < place (key r) rs → getD (placed r rs) k [] ≡ getD rs k [])
+        → k < cond b (suc (place (key r) rs)) 0 → getD (cond b (a ∷ placed r rs) (r ∷ a ∷ rs)) k [] ≡ getD (a ∷ rs) k []
+    pick true zero f h = refl
+    pick true (suc k) f h = f k (omega arith)
+    pick false k f h = absurd (omega arith)
+
+-- it is at its place
+pub placed-here : (r : List ℕ) (rs : List (List ℕ)) → getD (placed r rs) (place (key r) rs) [] ≡ r
+placed-here r [] = refl
+placed-here r (a ∷ rs) = pick (ltb (key a) (key r)) (placed-here r rs)
+  where
+    pick : (b : Bool) → getD (placed r rs) (place (key r) rs) [] ≡ r → getD (cond b (a ∷ placed r rs) (r ∷ a ∷ rs)) (cond b (suc (place (key r) rs)) 0) [] ≡ r
+    pick true f = f
+    pick false f = refl
+
+-- those from its place on come one later
+pub placed-after : (r : List ℕ) (rs : List (List ℕ)) (k : ℕ) → place (key r) rs ≤ k → getD (placed r rs) (suc k) [] ≡ getD rs k []
+placed-after r [] k h = refl
+placed-after r (a ∷ rs) k h = pick (ltb (key a) (key r)) k (placed-after r rs) h
+  where
+    pick : (b : Bool) (k : ℕ) → ((k : ℕ) → place (key r) rs ≤ k → getD (placed r rs) (suc k) [] ≡ getD rs k [])
+        → cond b (suc (place (key r) rs)) 0 ≤ k → getD (cond b (a ∷ placed r rs) (r ∷ a ∷ rs)) (suc k) [] ≡ getD (a ∷ rs) k []
+    pick true zero f h = absurd (omega arith)
+    pick true (suc k) f h = f k (omega arith)
+    pick false k f h = refl
+
+-- of records in order, each number is above the one before
+pub rising-step : {P : List ℕ → Type 0} {v : ℕ} {rs : List (List ℕ)} (k : ℕ) → suc k < length rs → Rising P v rs → key (getD rs k []) < key (getD rs (suc k) [])
+rising-step {P} k h none = absurd (omega arith)
+rising-step {P} zero h (more l p g) = first h g
+  where
+    first : {v : ℕ} {rs : List (List ℕ)} → 1 < suc (length rs) → Rising P v rs → v < key (getD rs 0 [])
+    first h none = absurd (omega arith)
+    first h (more m q g) = m
+rising-step {P} (suc k) h (more l p g) = rising-step k (omega arith) g

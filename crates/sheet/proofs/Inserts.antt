@@ -1,7 +1,7 @@
 -- An insert step by step: who is admitted, and the bytes that one more record leaves. Assumes nothing.
 use mathlib.Core.Path.{_≡_, refl, sym, ap, _∙_}
 use mathlib.Core.Bool.{Bool, true, false, _||_}
-use mathlib.Core.List.{List, [], _∷_, _++_}
+use mathlib.Core.List.{List, _++_}
 use Prim.Native.Nat.{ℕ, _+_, _-_, _*_, _≤_, _<_}
 use native.Mathlib.Omega.{arith}
 use native.Mathlib.Nat.{mul-le-mul-left}
@@ -14,16 +14,16 @@ use Rattle.octagon.proofs.Outcomes.{accepted-same, accepted-not-refused}
 use Rattle.outline.specs.Tracing.{traced}
 use Rattle.records.specs.Parts.{between, splice, shifted, opened}
 use Rattle.records.specs.Rows.{joined, key, present, place, placed}
-use Rattle.records.proofs.Fields.{length-packed}
 use Rattle.records.proofs.Moves.{open-is, close-is}
 use Rattle.records.proofs.Rows.{place-le, length-records, placed-bytes}
 use Rattle.records.proofs.Order.{or-false}
 use Rattle.sheet.specs.declared.Record.{Record}
-use Rattle.sheet.specs.Layout.{sheet-limit, record-length, trailer-length, trailer-layout, letters, trailer, encoded}
+use Rattle.sheet.specs.Layout.{sheet-limit, record-length, trailer-length, trailer, encoded}
 use Rattle.sheet.specs.Answers.{bad-number, no-room}
 use Rattle.sheet.specs.Checking.{Framed, first, rows, checked}
 use Rattle.sheet.specs.Writing.{left, admitted, vetted, insertion, inserted, grown, after-insert}
 use Rattle.sheet.proofs.Frames.{past}
+use Rattle.sheet.proofs.TrailerBytes.{length-trailer}
 
 -- ---- who is admitted
 
@@ -98,10 +98,6 @@ unfolding insertion inserted after-insert
 insert-sheet s len r e = rw e (refl, refl)
 
 -- ---- what is left
-
-pub length-trailer : (n : ℕ) → length (trailer n) ≡ trailer-length
-unfolding trailer
-length-trailer n = length-packed trailer-layout (record-length * n ∷ n ∷ record-length ∷ 0 ∷ letters ∷ []) refl
 
 -- the place of a number is within the records
 pub place-within : (s : List ℕ) (len c v : ℕ) → record-length * place v (rows s len c) ≤ record-length * c

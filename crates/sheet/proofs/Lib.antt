@@ -4,7 +4,11 @@ pub mod RecordBytes
 pub mod Frames
 pub mod Surveys
 pub mod Checks
+pub mod TrailerBytes
+pub mod Sheets
 pub mod Starts
 pub mod Inserts
 pub mod Outlines
 pub mod CheckCases
+pub mod Insertion
+pub mod Grown

@@ -88,12 +88,16 @@ letters = number (71 ∷ 82 ∷ 78 ∷ 68 ∷ [])
 abbrev pub trailer-layout : List ℕ
 trailer-layout = 4 ∷ 4 ∷ 2 ∷ 2 ∷ 4 ∷ []
 
--- the trailer of n records
-unfoldable pub trailer : ℕ → List ℕ
-trailer n = packed trailer-layout (record-length * n ∷ n ∷ record-length ∷ 0 ∷ letters ∷ [])
+-- the numbers in the trailer of n records, and its bytes
+abbrev pub trailer-values : ℕ → List ℕ
+trailer-values n = record-length * n ∷ n ∷ record-length ∷ 0 ∷ letters ∷ []
 
--- the numbers in the trailer at index t of s
+unfoldable pub trailer : ℕ → List ℕ
+trailer n = packed trailer-layout (trailer-values n)
+
+-- the trailer of these numbers, and the trailer at index t of s
+abbrev pub trailer-of : List ℕ → Trailer
+trailer-of v = record { distance = getD v 0 0; count = getD v 1 0; length = getD v 2 0; zeros = getD v 3 0; letters = getD v 4 0 }
+
 unfoldable pub trailer-at : List ℕ → ℕ → Trailer
-trailer-at s t =
-    let v = unpacked trailer-layout (drop t s) in
-    record { distance = getD v 0 0; count = getD v 1 0; length = getD v 2 0; zeros = getD v 3 0; letters = getD v 4 0 }
+trailer-at s t = trailer-of (unpacked trailer-layout (drop t s))
