@@ -1,9 +1,9 @@
 -- Laws of bytes that are moved up to make room. Assumes nothing.
-use mathlib.Core.Path.{_≡_, refl, sym, ap, _∙_}
-use mathlib.Core.List.{List, [], _∷_, _++_, append-assoc, append-nil}
+use mathlib.Core.Path.{_≡_, sym, ap, _∙_}
+use mathlib.Core.List.{List, _∷_, _++_, append-assoc, append-nil}
 use Prim.Native.Nat.{ℕ, suc, _+_, _≤_, _<_}
 use native.Mathlib.Omega.{arith}
-use lib.ListN.{length, take, drop, getD, set, length-append, length-take, length-drop, take-append-drop, List·getD-append}
+use lib.ListN.{length, take, drop, getD, set, length-append, length-take, take-append-drop, List·getD-append}
 use lib.Seq.{slice-empty, slice-cons, take-suc, set-at, getD-take, length-take-le, take-at, drop-at, take-append-le, take-take, drop-drop, length-slice}
 use Rattle.records.specs.Parts.{between, splice, shifted, opened}
 

@@ -4,9 +4,9 @@ use mathlib.Core.Bool.{Bool, true, false, cond}
 use mathlib.Core.List.{List, [], _∷_, _++_, append-assoc, append-nil}
 use Prim.Native.Nat.{ℕ, zero, suc, _+_, _-_, _*_, _≤_, _<_, zero-le}
 use native.Mathlib.Omega.{arith}
-use native.Mathlib.Nat.{mul-zero, mul-suc, mul-one, add-zero, sub-zero, zero-sub, suc-sub-suc, mul-add}
+use native.Mathlib.Nat.{mul-zero, mul-suc, mul-one, add-zero, sub-zero, suc-sub-suc, mul-add}
 use lib.ListN.{length, take, drop, getD, length-append, length-drop}
-use lib.Seq.{take-add, drop-drop, take-nil, take-take, drop-at, take-at, length-take-le}
+use lib.Seq.{take-add, drop-drop, take-take, drop-at, take-at, length-take-le}
 use lib.Dec.{ltb}
 use Rattle.records.specs.Numbers.{number}
 use Rattle.records.specs.Parts.{part, between}

@@ -1,13 +1,13 @@
 -- Laws of a list with a part replaced. Assumes nothing.
-use mathlib.Core.Path.{_≡_, refl, sym, ap, _∙_}
+use mathlib.Core.Path.{_≡_, sym, ap, _∙_}
 use mathlib.Core.List.{List, [], _∷_, _++_, append-assoc, append-nil}
-use Prim.Native.Nat.{ℕ, zero, suc, _+_, _≤_, _<_}
+use Prim.Native.Nat.{ℕ, suc, _+_, _≤_, _<_}
 use native.Mathlib.Omega.{arith}
 use native.Mathlib.Nat.{add-zero, add-assoc}
 use native.Mathlib.Numerals.{add-one}
-use lib.ListN.{length, take, drop, set, length-append, length-take, length-drop, take-append-drop}
-use lib.Seq.{set-split, length-take-le, take-at, drop-at, take-append-le, drop-append-le, take-take, drop-drop, take-all}
-use Rattle.records.specs.Parts.{part, splice}
+use lib.ListN.{length, take, drop, set, length-append, length-drop, take-append-drop}
+use lib.Seq.{set-split, length-take-le, take-at, drop-at, take-append-le, take-take, drop-drop}
+use Rattle.records.specs.Parts.{splice}
 
 pub splice-nil : (s : List ℕ) (at : ℕ) → splice s at [] ≡ s
 unfolding splice

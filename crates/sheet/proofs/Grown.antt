@@ -1,27 +1,27 @@
 -- The sheet that an accepted insert leaves, record by record. `insert-accepted` says it whole. Assumes nothing.
-use mathlib.Core.Path.{_≡_, refl, sym, ap, _∙_}
+use mathlib.Core.Path.{_≡_, sym, ap, _∙_}
 use mathlib.Core.List.{List, [], _++_, append-assoc}
-use Prim.Native.Nat.{ℕ, suc, _+_, _-_, _*_, _^_, _≤_, _<_}
+use Prim.Native.Nat.{ℕ, suc, _+_, _^_, _≤_, _<_}
 use native.Mathlib.Omega.{arith}
 use lib.ListN.{length, take, drop, getD, length-append, length-drop}
 use lib.Seq.{take-at, drop-at}
 use lib.Dec.{ltb}
 use borrow.Author.Tests.{ltb-true, ltb-false}
 use Rattle.integers.proofs.Tests.{cases}
-use Rattle.octagon.specs.Outcome.{accepted, refused}
+use Rattle.octagon.specs.Outcome.{accepted}
 use Rattle.octagon.proofs.Outcomes.{accepted-same, accepted-not-refused}
 use Rattle.records.specs.Rows.{joined, key-width, key, place, placed}
 use Rattle.records.proofs.Rows.{length-records, length-joined, place-le, mul-more}
 use Rattle.records.proofs.Order.{placed-before, placed-here, placed-after, rising-step}
 use Rattle.sheet.specs.declared.Record.{Record}
-use Rattle.sheet.specs.Layout.{record-length, trailer-length, trailer, encoded, decoded}
-use Rattle.sheet.specs.Checking.{Framed, first, rows, checked, fetched}
+use Rattle.sheet.specs.Layout.{record-length, trailer, encoded, decoded}
+use Rattle.sheet.specs.Checking.{first, rows, checked, fetched}
 use Rattle.sheet.specs.Writing.{insertion, after-insert}
 use Rattle.sheet.proofs.RecordBytes.{decoded-encoded, key-decoded}
 use Rattle.sheet.proofs.Checks.{checked-when, checked-good, fetched-row, fetched-none}
 use Rattle.sheet.proofs.TrailerBytes.{length-trailer}
 use Rattle.sheet.proofs.Sheets.{sheet, sheet-good, sheet-rows}
-use Rattle.sheet.proofs.Insertion.{Taken, insertion-taken, insert-leaves, known, new-fits, new-front, new-each, new-count, new-length, new-rising}
+use Rattle.sheet.proofs.Insertion.{Taken, insertion-taken, insert-leaves, new-fits, new-front, new-each, new-count, new-length, new-rising}
 
 -- s′ is the sheet s of len bytes and c records with the record r inserted
 pub record Grown (s s′ : List ℕ) (len c : ℕ) (r : Record) : Type 0 where

@@ -2,28 +2,27 @@
 -- new one by rising number, with the trailer brought up to date, the heading and the bytes past the new length as they were.
 -- Assumes nothing.
 use mathlib.Core.Path.{_≡_, refl, sym, ap, _∙_}
-use mathlib.Core.List.{List, [], _++_, append-assoc}
-use Prim.Native.Nat.{ℕ, suc, _+_, _-_, _*_, _^_, _≤_, _<_}
+use mathlib.Core.List.{List}
+use Prim.Native.Nat.{ℕ, _+_, _*_, _^_, _<_}
 use native.Mathlib.Omega.{arith}
-use lib.ListN.{length, take, drop, getD, length-append, length-drop}
-use lib.Seq.{length-take-le, take-at, drop-at}
+use lib.ListN.{length, take, drop}
+use lib.Seq.{length-take-le}
 use Rattle.octagon.specs.declared.Octagon.{Octagon}
 use Rattle.octagon.specs.Outcome.{Outcome, accepted, refused, then}
-use Rattle.octagon.proofs.Outcomes.{accepted-same, accepted-not-refused}
+use Rattle.octagon.proofs.Outcomes.{accepted-not-refused}
 use Rattle.outline.specs.Tracing.{traced}
-use Rattle.records.specs.Rows.{joined, key-width, key, Rising, place, placed}
-use Rattle.records.proofs.Rows.{Each, each-records, each-placed, length-records, length-placed, length-joined, place-le, mul-more}
-use Rattle.records.proofs.Order.{rising-placed, placed-before, placed-here, placed-after, rising-step}
+use Rattle.records.specs.Rows.{key-width, key, Rising, placed}
+use Rattle.records.proofs.Rows.{Each, each-records, each-placed, length-records, length-placed, mul-more}
+use Rattle.records.proofs.Order.{rising-placed}
 use Rattle.sheet.specs.declared.Record.{Record}
-use Rattle.sheet.specs.Layout.{sheet-limit, record-length, trailer-length, trailer, encoded, decoded, Fits}
-use Rattle.sheet.specs.Checking.{Framed, first, rows, checked, fetched}
+use Rattle.sheet.specs.Layout.{record-length, trailer-length, encoded, Fits}
+use Rattle.sheet.specs.Checking.{Framed, first, rows, checked}
 use Rattle.sheet.specs.Writing.{left, vetted, insertion, inserted, grown, after-insert}
-use Rattle.sheet.proofs.RecordBytes.{length-encoded, decoded-encoded, key-decoded, key-encoded}
+use Rattle.sheet.proofs.RecordBytes.{length-encoded, decoded-encoded, key-encoded}
 use Rattle.sheet.proofs.Outlines.{accepted-fits}
 use Rattle.sheet.proofs.Surveys.{Traced}
-use Rattle.sheet.proofs.Checks.{Good, checked-when, checked-good, checked-known, fetched-row, fetched-none}
-use Rattle.sheet.proofs.TrailerBytes.{length-trailer}
-use Rattle.sheet.proofs.Sheets.{sheet, sheet-good, sheet-rows}
+use Rattle.sheet.proofs.Checks.{checked-good, checked-known}
+use Rattle.sheet.proofs.Sheets.{sheet}
 use Rattle.sheet.proofs.Inserts.{Admitted, vetted-passed}
 
 -- "A refused call alters nothing it was lent": every byte is as it was

@@ -1,11 +1,11 @@
 -- An insert step by step: who is admitted, and the bytes that one more record leaves. Assumes nothing.
 use mathlib.Core.Path.{_≡_, refl, sym, ap, _∙_}
-use mathlib.Core.Bool.{Bool, true, false, _||_}
+use mathlib.Core.Bool.{true, false, _||_}
 use mathlib.Core.List.{List, _++_}
 use Prim.Native.Nat.{ℕ, _+_, _-_, _*_, _≤_, _<_}
 use native.Mathlib.Omega.{arith}
 use native.Mathlib.Nat.{mul-le-mul-left}
-use lib.ListN.{length, take, drop}
+use lib.ListN.{length, take}
 use lib.Dec.{ltb, eqb}
 use borrow.Author.Tests.{ltb-false, eqb-false}
 use Rattle.octagon.specs.declared.Octagon.{Octagon}
@@ -121,8 +121,7 @@ grown-is s len c b f h l =
     ap (λ (x : ℕ). splice (shifted s at end x) at b) (sym l) ∙ open-is s at end b (omega (arith, f .long)) (omega (arith, f .within)) in
     let p : take at s ++ (b ++ between s at end) ≡ take (first len c) s ++ joined (placed b (rows s len c)) =
     ap (λ (x : ℕ). take at s ++ (b ++ between s at x)) (sym e) ∙ placed-bytes record-length s (first len c) c b in
-    let q : splice (opened s at end b) (end + length b) (trailer (c + 1)) ≡ take at s ++ (b ++ between s at end) ++ trailer (c + 1) ++ drop (end + length b + length (trailer (c + 1))) s =
-    close-is s at end b (trailer (c + 1)) (omega (arith, f .long)) (omega (arith, f .long)) in
+    let q = close-is s at end b (trailer (c + 1)) (omega (arith, f .long)) (omega (arith, f .long)) in
     ap (λ (x : List ℕ). splice x (end + record-length) (trailer (c + 1))) o
     ∙ ap (λ (x : ℕ). splice (opened s at end b) (end + x) (trailer (c + 1))) (sym l)
     ∙ q

@@ -12,3 +12,4 @@ pub mod Outlines
 pub mod CheckCases
 pub mod Insertion
 pub mod Grown
+pub mod Computed

@@ -1,26 +1,22 @@
 -- An outline that is accepted fits a record's fields: its start is on the map, and no side is longer than the map is wide.
 -- Assumes nothing.
-use mathlib.Core.Path.{_≡_, refl, sym, _∙_}
-use mathlib.Core.Bool.{Bool, true, false, cond}
-use Prim.Native.Nat.{ℕ, _+_, _≤_, _<_}
+use mathlib.Core.Path.{_≡_, sym}
+use Prim.Native.Nat.{_<_}
 use native.Mathlib.Omega.{arith}
 use lib.IntN.{ℤ, pos, negsuc}
 use lib.Signed.{mag}
 use Rattle.integers.proofs.Parts.{up, dn}
-use Rattle.integers.proofs.Linear.{Diff, #, _⊕_, neg, lit, _≼_, _≈_}
-use Rattle.integers.proofs.Tests.{cases}
+use Rattle.integers.proofs.Linear.{#, neg, lit, _≼_}
 use Rattle.octagon.specs.declared.Octagon.{Octagon}
-use Rattle.octagon.specs.Outcome.{accepted, off-map}
+use Rattle.octagon.specs.Outcome.{Outcome, accepted}
 use Rattle.octagon.specs.Cells.{limit}
-use Rattle.octagon.specs.NormalForm.{is-on-map, placed}
 use Rattle.octagon.proofs.Outcomes.{accepted-not-refused}
 use Rattle.octagon.proofs.Within.{Near}
-use Rattle.octagon.proofs.Map.{test-near}
 use Rattle.outline.specs.declared.Outline.{Outline}
-use Rattle.outline.specs.Closing.{Closes, closes}
-use Rattle.outline.specs.Tracing.{drawn, traced, not-closed}
-use Rattle.outline.proofs.Closed.{test-closes}
-use Rattle.outline.proofs.Drawn.{Walked, walked, Reached, reached}
+use Rattle.outline.specs.Closing.{Closes}
+use Rattle.outline.specs.Tracing.{drawn, traced}
+use Rattle.outline.proofs.Tracings.{Tracing, is-octagon, is-open, is-off, tracing}
+use Rattle.outline.proofs.Drawn.{walked, reached}
 use Rattle.sheet.specs.Layout.{Fits}
 
 -- a number within the map's limit
@@ -30,14 +26,13 @@ near-mag (pos n) h l = omega arith
 near-mag (negsuc n) h l = omega arith
 
 -- an accepted outline closes, and its bounds are on the map
-pub accepted-near : (o : Outline) (c : Octagon) → traced o ≡ accepted c → Closes o × Near (drawn o)
-unfolding traced placed
-accepted-near o c e =
-    cases (closes o)
-    (λ h. cases (is-on-map (drawn o))
-    (λ m. (test-closes o h, test-near (drawn o) m))
-    (λ m. absurd (accepted-not-refused {n = off-map} (sym e ∙ rw (h, m)))))
-    (λ h. absurd (accepted-not-refused {n = not-closed} (sym e ∙ rw h)))
+accepted-near : (o : Outline) (c : Octagon) → traced o ≡ accepted c → Closes o × Near (drawn o)
+accepted-near o c = go (tracing o)
+  where
+    go : {t : Outcome Octagon} → Tracing o t → t ≡ accepted c → Closes o × Near (drawn o)
+    go (is-octagon a e k n m) q = (k, rw e at m)
+    go (is-open h) q = absurd (accepted-not-refused (sym q))
+    go (is-off k h) q = absurd (accepted-not-refused (sym q))
 
 fits : (o : Outline) → Closes o → Near (drawn o) → Fits o
 fits o k n =

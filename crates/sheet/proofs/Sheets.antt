@@ -7,9 +7,9 @@ use native.Mathlib.Omega.{arith}
 use lib.ListN.{length, length-append}
 use Rattle.records.specs.Rows.{records, joined, Rising}
 use Rattle.records.proofs.Rows.{Each, length-joined, records-joined}
-use Rattle.sheet.specs.Layout.{sheet-limit, record-length, trailer-length, trailer, trailer-values, trailer-of, trailer-at}
+use Rattle.sheet.specs.Layout.{sheet-limit, record-length, trailer-length, trailer, trailer-values, trailer-from, trailer-at}
 use Rattle.sheet.specs.Checking.{first, rows}
-use Rattle.sheet.proofs.Frames.{Marked, Located, Sound, framed-when}
+use Rattle.sheet.proofs.Frames.{Sound, framed-when}
 use Rattle.sheet.proofs.Surveys.{Traced}
 use Rattle.sheet.proofs.Checks.{Good}
 use Rattle.sheet.proofs.TrailerBytes.{length-trailer, trailer-again}
@@ -28,7 +28,7 @@ module _ (h : List ℕ) (rs : List (List ℕ)) (c : ℕ) (d : List ℕ) (len : �
       length-append (h ++ joined rs ++ trailer c) d
       ∙ omega (arith, length-append (h ++ joined rs) (trailer c), length-append h (joined rs), length-joined m, length-trailer c, n)
 
-  again : record-length * c < 256 ^ 4 → trailer-at (sheet h rs c d) (len - trailer-length) ≡ trailer-of (trailer-values c)
+  again : record-length * c < 256 ^ 4 → trailer-at (sheet h rs c d) (len - trailer-length) ≡ trailer-from (trailer-values c)
   again k = rw (append-assoc (h ++ joined rs) (trailer c) d) (trailer-again (h ++ joined rs) d (len - trailer-length) c front k)
 
   pub sheet-sound : len ≤ sheet-limit → Sound (sheet h rs c d) len c

@@ -1,7 +1,7 @@
 -- A sheet that is started: each answer, with what it leaves, and that it checks with no records. Assumes nothing.
-use mathlib.Core.Path.{_≡_, refl, sym, ap, _∙_}
+use mathlib.Core.Path.{_≡_, refl, sym}
 use mathlib.Core.List.{List, [], _++_, append-nil}
-use Prim.Native.Nat.{ℕ, _+_, _-_, _*_, _≤_, _<_}
+use Prim.Native.Nat.{ℕ, _+_, _≤_, _<_}
 use native.Mathlib.Omega.{arith}
 use lib.ListN.{length, take, drop}
 use lib.Seq.{length-take-le}
@@ -32,7 +32,8 @@ module _ (s : List ℕ) (h : ℕ) where
   unfolding started after-start
   start-full l m = rw (le-ltb sheet-limit (h + trailer-length) l, lt-ltb (length s) (h + trailer-length) m) (refl, refl)
 
-  pub start-made : h + trailer-length ≤ sheet-limit → h + trailer-length ≤ length s → (accepted (h + trailer-length) ≡ started s h) × (splice s h (trailer 0) ≡ after-start s h)
+  pub start-made : h + trailer-length ≤ sheet-limit → h + trailer-length ≤ length s
+      → (accepted (h + trailer-length) ≡ started s h) × (splice s h (trailer 0) ≡ after-start s h)
   unfolding started after-start
   start-made l m = rw (le-ltb sheet-limit (h + trailer-length) l, le-ltb (length s) (h + trailer-length) m) (refl, refl)
 
@@ -53,7 +54,8 @@ pub record Started (s s′ : List ℕ) (h n : ℕ) : Type 0 where
   pub past : drop n s′ ≡ drop n s
   pub same-length : length s′ ≡ length s
 
-started-passed : (s : List ℕ) (h n : ℕ) → started s h ≡ accepted n → (h + trailer-length ≤ sheet-limit) × (h + trailer-length ≤ length s) × (n ≡ h + trailer-length)
+started-passed : (s : List ℕ) (h n : ℕ) → started s h ≡ accepted n
+    → (h + trailer-length ≤ sheet-limit) × (h + trailer-length ≤ length s) × (n ≡ h + trailer-length)
 unfolding started
 started-passed s h n e =
     let p = past (ltb sheet-limit (h + trailer-length)) bad-length _ n e in

@@ -6,12 +6,11 @@ use Prim.Native.Nat.{ℕ, _+_, _*_, _^_, _≤_, _<_}
 use native.Mathlib.Omega.{arith}
 use lib.ListN.{length, take, drop, getD, length-drop}
 use lib.Seq.{drop-at, drop-drop}
-use Rattle.records.specs.Numbers.{number, packed, unpacked}
+use Rattle.records.specs.Numbers.{number, bytes, packed, unpacked}
 use Rattle.records.specs.Parts.{part}
 use Rattle.records.proofs.Numbers.{Bytes, drop-bytes}
 use Rattle.records.proofs.Fields.{Fit, none, more, length-packed, unpacked-packed, packed-unpacked, unpacked-take}
-use Rattle.sheet.specs.declared.trailer.Trailer.{Trailer}
-use Rattle.sheet.specs.Layout.{record-length, trailer-length, trailer-layout, letters, trailer-values, trailer, trailer-of, trailer-at}
+use Rattle.sheet.specs.Layout.{record-length, trailer-length, trailer-layout, letters, trailer-values, trailer, trailer-from, trailer-at}
 use Rattle.sheet.proofs.Frames.{Marked}
 
 pub length-trailer : (n : ℕ) → length (trailer n) ≡ trailer-length
@@ -28,11 +27,11 @@ values-fit n h =
     more h (more a (more b (more d (more e none))))
 
 -- a trailer that was written after a is read again
-pub trailer-again : (a d : List ℕ) (t n : ℕ) → length a ≡ t → record-length * n < 256 ^ 4 → trailer-at (a ++ (trailer n ++ d)) t ≡ trailer-of (trailer-values n)
+pub trailer-again : (a d : List ℕ) (t n : ℕ) → length a ≡ t → record-length * n < 256 ^ 4 → trailer-at (a ++ (trailer n ++ d)) t ≡ trailer-from (trailer-values n)
 unfolding trailer trailer-at
 trailer-again a d t n e h =
-    ap (λ (x : List ℕ). trailer-of (unpacked trailer-layout x)) (drop-at a (packed trailer-layout (trailer-values n) ++ d) t e)
-    ∙ ap trailer-of (unpacked-packed d (values-fit n h))
+    ap (λ (x : List ℕ). trailer-from (unpacked trailer-layout x)) (drop-at a (packed trailer-layout (trailer-values n) ++ d) t e)
+    ∙ ap trailer-from (unpacked-packed d (values-fit n h))
 
 -- ---- the marks, in bytes
 
@@ -41,7 +40,7 @@ marks-layout : List ℕ
 marks-layout = 2 ∷ 2 ∷ 4 ∷ []
 
 abbrev pub marks : List ℕ
-marks = 24 ∷ 0 ∷ 0 ∷ 0 ∷ 71 ∷ 82 ∷ 78 ∷ 68 ∷ []
+marks = bytes 2 record-length ++ (0 ∷ 0 ∷ 71 ∷ 82 ∷ 78 ∷ 68 ∷ [])
 
 to : (y : List ℕ) → Bytes y → 8 ≤ length y → let v = unpacked marks-layout y in
     getD v 0 0 ≡ record-length → getD v 1 0 ≡ 0 → getD v 2 0 ≡ letters → take 8 y ≡ marks
@@ -71,5 +70,10 @@ marked-bytes s t b h =
     let y = drop (t + 8) s in
     let e = last-three s t in (
       λ m. to y (drop-bytes (t + 8) s b) (rw length-drop (omega arith)) (sym (e .0) ∙ m .length-is) (sym (e .1) ∙ m .zeros-are) (sym (e .2) ∙ m .letters-are),
-      λ q. let f = from y q in record { length-is = e .0 ∙ ap (λ (v : List ℕ). getD v 0 0) f; zeros-are = e .1 ∙ ap (λ (v : List ℕ). getD v 1 0) f; letters-are = e .2 ∙ ap (λ (v : List ℕ). getD v 2 0) f },
+      λ q. let f = from y q in
+          record {
+            length-is = e .0 ∙ ap (λ (v : List ℕ). getD v 0 0) f;
+            zeros-are = e .1 ∙ ap (λ (v : List ℕ). getD v 1 0) f;
+            letters-are = e .2 ∙ ap (λ (v : List ℕ). getD v 2 0) f;
+          },
     )

@@ -1,10 +1,10 @@
--- What `check` and `fetch` answer: definitions that compute. proofs/Checked.antt takes them apart in the words of document 01.
--- Assumes nothing.
-use mathlib.Core.Bool.{Bool, cond, not, _||_}
+-- What `check` and `fetch` answer: definitions that compute. proofs/CheckCases.antt says exactly when each answer of a check is
+-- given. Assumes nothing.
+use mathlib.Core.Bool.{Bool, cond, not, _&&_, _||_}
 use mathlib.Core.List.{List, [], _∷_}
 use Prim.Native.Nat.{ℕ, _+_, _-_, _*_, _≤_}
 use lib.ListN.{length, getD}
-use lib.Dec.{ltb, eqb}
+use lib.Dec.{leb, ltb, eqb}
 use Rattle.octagon.specs.Outcome.{Outcome, accepted, refused, then}
 use Rattle.outline.specs.Tracing.{traced}
 use Rattle.records.specs.Rows.{records, key}
@@ -39,7 +39,7 @@ pub record Framed (s : List ℕ) (len c : ℕ) : Type 0 where
   pub short : len ≤ sheet-limit
   pub long : record-length * c + trailer-length ≤ len
 
--- where the first of c records stands, and the records
+-- where the first of c records stands, after the heading, and the bytes of each record
 abbrev pub first : ℕ → ℕ → ℕ
 first len c = len - trailer-length - record-length * c
 
@@ -65,3 +65,9 @@ checked s len = then (framed s len) (λ c. surveyed c 0 (rows s len c))
 unfoldable pub fetched : List ℕ → ℕ → ℕ → Outcome Record
 fetched s len k =
     then (checked s len) (λ c. cond (ltb k c) (accepted (decoded (getD (rows s len c) k []))) (refused no-record))
+
+-- what `read` answers of a sheet that was checked: 13 when k is not below the count c, or c records do not lie in the buffer
+unfoldable pub read : List ℕ → ℕ → ℕ → ℕ → Outcome Record
+read s len c k =
+    cond (ltb k c && leb (record-length * c + trailer-length) len && leb len (length s)) (accepted (decoded (getD (rows s len c) k [])))
+    (refused no-record)

@@ -2,7 +2,6 @@
 use Prim.Native.Nat.{ℕ, _*_, _/_, _^_, _<_}
 use mathlib.Core.List.{List, [], _∷_}
 use lib.ListN.{getD, drop}
-use lib.IntN.{ℤ}
 use lib.Signed.{mag}
 use Rattle.outline.specs.declared.Outline.{Outline}
 use Rattle.records.specs.Numbers.{number, signed, twos, packed, unpacked}
@@ -41,8 +40,8 @@ values r =
     let o = r .outline in
     r .number ∷ twos start-width (o .i) ∷ twos start-width (o .j) ∷ o .n0 ∷ o .n1 ∷ o .n2 ∷ o .n3 ∷ o .n4 ∷ o .n5 ∷ o .n6 ∷ o .n7 ∷ []
 
-abbrev pub record-of : List ℕ → Record
-record-of v = record {
+abbrev pub record-from : List ℕ → Record
+record-from v = record {
   number = getD v 0 0;
   outline = record {
     i = signed start-width (getD v 1 0);
@@ -63,9 +62,9 @@ unfoldable pub encoded : Record → List ℕ
 encoded r = packed layout (values r)
 
 unfoldable pub decoded : List ℕ → Record
-decoded b = record-of (unpacked layout b)
+decoded b = record-from (unpacked layout b)
 
--- an outline fits a record's fields
+-- an outline fits a record's fields (`mag z < h` says that z is from -h up to h - 1)
 pub record Fits (o : Outline) : Type 0 where
   pub fits-i : mag (o .i) < 256 ^ start-width / 2
   pub fits-j : mag (o .j) < 256 ^ start-width / 2
@@ -96,8 +95,8 @@ unfoldable pub trailer : ℕ → List ℕ
 trailer n = packed trailer-layout (trailer-values n)
 
 -- the trailer of these numbers, and the trailer at index t of s
-abbrev pub trailer-of : List ℕ → Trailer
-trailer-of v = record { distance = getD v 0 0; count = getD v 1 0; length = getD v 2 0; zeros = getD v 3 0; letters = getD v 4 0 }
+abbrev pub trailer-from : List ℕ → Trailer
+trailer-from v = record { distance = getD v 0 0; count = getD v 1 0; length = getD v 2 0; zeros = getD v 3 0; letters = getD v 4 0 }
 
 unfoldable pub trailer-at : List ℕ → ℕ → Trailer
-trailer-at s t = trailer-of (unpacked trailer-layout (drop t s))
+trailer-at s t = trailer-from (unpacked trailer-layout (drop t s))

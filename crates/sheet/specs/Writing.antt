@@ -1,6 +1,6 @@
--- What `start` and `insert` answer, and what they leave in the buffer: definitions that compute. proofs/Inserting.antt says what
--- they mean. Assumes nothing.
-use mathlib.Core.Bool.{Bool, cond, _||_}
+-- What `start` and `insert` answer, and what they leave in the buffer: definitions that compute. proofs/Starts.antt and
+-- proofs/Grown.antt say what they mean. Assumes nothing.
+use mathlib.Core.Bool.{cond, _||_}
 use mathlib.Core.List.{List, _++_}
 use Prim.Native.Nat.{ℕ, _+_}
 use lib.ListN.{length, take, drop}

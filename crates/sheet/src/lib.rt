@@ -4,7 +4,7 @@
 // specs/Writing.antt what `start` and `insert` answer and leave in the buffer.
 ghost use mathlib.Core.Path.{_≡_};
 ghost use Rattle.sheet.specs.Answers.{«count-of», «record-of», «length-of»};
-ghost use Rattle.sheet.specs.Checking.{checked, fetched};
+ghost use Rattle.sheet.specs.Checking.{checked, fetched, read as «read-of»};
 ghost use Rattle.sheet.specs.Writing.{started, «after-start», inserted, «after-insert»};
 use octagon::Answer;
 use outline::Outline;
@@ -87,6 +87,19 @@ pub fn fetch(sheet: &[u8], len: usize, k: u32) -> Fetched
             }
         }
     }
+}
+
+// Record k of a sheet of `len` bytes in which a check has counted `count` records: what `fetch` answers, with no check of the
+// records. Refuses a k that is not below the count, or records that do not lie in the buffer.
+pub fn read(sheet: &[u8], len: usize, count: u32, k: u32) -> Fetched
+    ensures { λ r. ⌜ «record-of» r ≡ «read-of» (now (sheet .entry)) len count k ⌝ }
+{
+    let size = RECORD * (count as usize) + TRAILER;
+    if (k < count) & (size <= len) & (len <= sheet.len()) {
+        let first = len - size;
+        return Fetched::Record(encoding::record_at(sheet, first + RECORD * (k as usize)));
+    }
+    Fetched::Refused(NO_RECORD)
 }
 
 // Starts a sheet of no records after `heading` bytes, and answers its length. Refuses a sheet that is too long, then one that

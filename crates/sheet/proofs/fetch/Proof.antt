@@ -2,7 +2,7 @@
 use mathlib.Core.Path.{_≡_, sym, ap, _∙_}
 use native.Mathlib.Omega.{arith}
 use borrow.Author.Needs.{needs}
-use Rattle.octagon.specs.Outcome.{accepted, refused}
+use Rattle.octagon.specs.Outcome.{accepted}
 use Rattle.sheet.specs.Answers.{count-of}
 use Rattle.sheet.specs.Checking.{checked, Framed}
 use Rattle.sheet.proofs.Checks.{checked-known, fetched-refused, fetched-none, fetched-at}
@@ -17,7 +17,10 @@ known : (c : tie.After-c) → let a = c .before .before .before .before .args in
 known c = let a = c .before .before .before .before .args in checked-known (a .sheet .now) (a .len) (c .c .given .0 .0) (counted c)
 
 returns : tie.Need-returns
-returns c = let a = c .before .before .before .before .before .args in sym (fetched-refused (a .sheet .now) (a .len) (a .k) (sym (c .before .before .before .check .ensures) ∙ ap count-of (c .before .e .given .1)))
+returns c =
+    let k = c .before .before .before in
+    let a = k .before .before .args in
+    sym (fetched-refused (a .sheet .now) (a .len) (a .k) (sym (k .check .ensures) ∙ ap count-of (c .before .e .given .1)))
 
 returns-2 : tie.Need-returns-2
 returns-2 c =

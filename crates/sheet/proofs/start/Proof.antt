@@ -1,5 +1,5 @@
 -- `start` meets its contract. Assumes nothing.
-use mathlib.Core.Path.{_≡_, refl, _∙_}
+use mathlib.Core.Path.{_∙_}
 use native.Mathlib.Omega.{arith}
 use borrow.Author.Needs.{needs}
 use Rattle.sheet.proofs.Starts.{start-long, start-full, start-made}
@@ -13,7 +13,10 @@ returns-2 : tie.Need-returns-2
 returns-2 c = start-full _ _ (omega arith) (omega arith)
 
 returns-3 : tie.Need-returns-3
-returns-3 c = let a = c .before .before .before .before .before .before .before .args in let m = start-made (a .sheet .now) (a .heading) (omega arith) (omega arith) in (m .0, c .before .before .put-trailer .ensures ∙ m .1)
+returns-3 c =
+    let a = c .before .before .before .before .before .before .before .args in
+    let m = start-made (a .sheet .now) (a .heading) (omega arith) (omega arith) in
+    (m .0, c .before .before .put-trailer .ensures ∙ m .1)
 
 pub start-spec : {M : Type 1} → statement M
 start-spec =

@@ -1,5 +1,5 @@
 -- `judge` meets its contract. Assumes nothing.
-use mathlib.Core.Path.{_≡_, sym, ap, _∙_}
+use mathlib.Core.Path.{sym, ap, _∙_}
 use borrow.Author.Needs.{needs}
 use Rattle.octagon.specs.Answers.{outcome}
 use Rattle.sheet.proofs.Surveys.{judged-number, judged-outline, judged-good}
@@ -11,11 +11,15 @@ returns c = sym (judged-number _ _ _ (c .before .record-at .ensures) (c .if1 .ta
 
 returns-2 : tie.Need-returns-2
 returns-2 c =
-    sym (judged-outline _ _ _ (c .before .before .before .before .before .before .record-at .ensures) (c .before .before .before .before .before .if1 .left) (sym (c .before .before .before .to-octagon .ensures) ∙ ap outcome (c .before .k .given .1)))
+    let t = c .before .before .before in
+    let e = t .before .before in
+    sym (judged-outline _ _ _ (e .before .record-at .ensures) (e .if1 .left) (sym (t .to-octagon .ensures) ∙ ap outcome (c .before .k .given .1)))
 
 returns-3 : tie.Need-returns-3
 returns-3 c =
-    sym (judged-good _ _ _ (c .before .before .before .before .before .record-at .ensures) (c .before .before .before .before .if1 .left) (sym (c .before .before .to-octagon .ensures) ∙ ap outcome (c .enum-told .given .1)))
+    let t = c .before .before in
+    let e = t .before .before in
+    sym (judged-good _ _ _ (e .before .record-at .ensures) (e .if1 .left) (sym (t .to-octagon .ensures) ∙ ap outcome (c .enum-told .given .1)))
 
 pub judge-spec : {M : Type 1} → statement M
 judge-spec =

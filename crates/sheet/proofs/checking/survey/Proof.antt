@@ -1,6 +1,6 @@
 -- `survey` meets its contract. The invariant: the records that are left decide. Assumes nothing.
 use mathlib.Core.Path.{_≡_, refl, sym, ap, _∙_}
-use Prim.Native.Nat.{ℕ, _+_, _-_, _*_, _≤_, _<_}
+use Prim.Native.Nat.{_+_, _*_, _≤_}
 use native.Mathlib.Omega.{arith}
 use lib.ListN.{length}
 use borrow.Author.Needs.{needs}
@@ -24,15 +24,18 @@ returns : tie.Need-returns Inv-loop μ-loop
 returns c =
     let l = c .before .before .before .before .loop in
     let a = c .before .before .before .before .before .before .args in
+    let j = c .before .before in
     let e = ap count-of (c .enum-told .given .1) in
-    e ∙ sym (l .inv .1 ∙ survey-refused (a .count) (l .before) (a .s .now) (l .p) (l .left) _ (c .before .before .before .loop-test .taken) (sym (c .before .before .judge .ensures) ∙ e))
+    e ∙ sym (l .inv .1 ∙ survey-refused (a .count) (l .before) (a .s .now) (l .p) (l .left) _ (j .before .loop-test .taken) (sym (j .judge .ensures) ∙ e))
 
 loop-again : tie.Need-loop-again Inv-loop μ-loop
 loop-again c =
     let l = c .before .before .before .before .before .loop in
-    let a = c .before .before .before .before .before .before .before .args in (
+    let a = c .before .before .before .before .before .before .before .args in
+    let j = c .before .before .before in
+    let e = sym (j .judge .ensures) ∙ ap count-of (c .before .answer .given .1) in (
       omega arith,
-      l .inv .1 ∙ survey-more (a .count) (l .before) (a .s .now) (l .p) (l .left) _ (c .before .before .before .before .loop-test .taken) (sym (c .before .before .before .judge .ensures) ∙ ap count-of (c .before .answer .given .1)),
+      l .inv .1 ∙ survey-more (a .count) (l .before) (a .s .now) (l .p) (l .left) _ (j .before .loop-test .taken) e,
     )
 
 returns-2 : tie.Need-returns-2 Inv-loop μ-loop

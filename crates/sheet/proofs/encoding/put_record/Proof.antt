@@ -1,5 +1,5 @@
 -- `put_record` meets its contract. Assumes nothing.
-use mathlib.Core.Path.{_≡_, refl, sym, ap, _∙_}
+use mathlib.Core.Path.{ap, _∙_}
 use borrow.Author.Needs.{needs}
 use Rattle.records.specs.Numbers.{twos}
 use Rattle.records.specs.Parts.{splice}

@@ -1,5 +1,5 @@
 -- `admit` meets its contract. Assumes nothing.
-use mathlib.Core.Path.{_≡_, sym, _∙_}
+use mathlib.Core.Path.{sym}
 use borrow.Author.Needs.{needs}
 use Rattle.sheet.proofs.Inserts.{admit-number, admit-room, admit-good}
 use Rattle.sheet.proofs.inserting.admit.Statement.{statement}

@@ -2,9 +2,9 @@
 use mathlib.Core.Path.{_≡_, refl, sym, ap, _∙_}
 use native.Mathlib.Omega.{arith}
 use borrow.Author.Needs.{needs}
-use Rattle.octagon.specs.Outcome.{accepted, refused}
+use Rattle.octagon.specs.Outcome.{accepted}
 use Rattle.sheet.specs.Answers.{count-of}
-use Rattle.sheet.specs.Checking.{checked, Framed}
+use Rattle.sheet.specs.Checking.{Framed}
 use Rattle.sheet.specs.Writing.{vetted}
 use Rattle.sheet.proofs.Checks.{checked-known}
 use Rattle.sheet.proofs.Inserts.{Admitted, vetted-passed}

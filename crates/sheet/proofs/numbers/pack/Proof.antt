@@ -1,11 +1,10 @@
 -- `pack` meets its contract. The invariant: the fields that are left, put from index p on, give the whole. Assumes nothing.
-use mathlib.Core.Path.{_≡_, refl, sym, _∙_, ap}
-use Prim.Native.Nat.{ℕ, _+_, _-_, _≤_, _<_}
+use mathlib.Core.Path.{_≡_, refl, sym, _∙_}
+use Prim.Native.Nat.{_+_, _-_, _≤_}
 use native.Mathlib.Omega.{arith}
 use native.Mathlib.Nat.{le-antisymm}
 use lib.ListN.{length, drop, getD}
 use lib.Seq.{drop-length}
-use borrow.Author.Needs.{needs}
 use Rattle.records.specs.Numbers.{total, packed}
 use Rattle.records.specs.Parts.{splice}
 use Rattle.records.proofs.Splices.{splice-nil}
@@ -34,7 +33,9 @@ put-number-requires : tie.Need-put-number-requires Inv-loop μ-loop
 put-number-requires c κs = omega (arith, within (c .before .before .before), c .before .before .before .before .loop .inv)
 
 add-p : tie.Need-add-p Inv-loop μ-loop
-add-p c = omega (arith, within (c .before .before .before .before .before .before), c .before .before .before .before .before .before .before .loop .inv, c .before .before .before .before .before .before .before .before .before .before .before .good)
+add-p c =
+    let i = c .before .before .before .before .before .before in
+    omega (arith, within i, i .before .loop .inv, i .before .before .before .before .before .good)
 
 loop-again : tie.Need-loop-again Inv-loop μ-loop
 loop-again c =

@@ -1,11 +1,7 @@
 -- `read_number` meets its contract. The invariant: v is the number of the bytes from index i on. Assumes nothing.
-use mathlib.Core.Path.{_≡_, refl, sym, _∙_, ap}
-use Prim.Native.Nat.{ℕ, _+_, _-_, _^_, _≤_, _<_}
+use mathlib.Core.Path.{_≡_, _∙_}
+use Prim.Native.Nat.{_+_, _-_, _<_}
 use native.Mathlib.Omega.{arith}
-use native.Mathlib.Nat.{add-zero, sub-zero}
-use lib.ListN.{length}
-use Rattle.records.specs.Numbers.{number}
-use Rattle.records.specs.Parts.{part}
 use Rattle.records.proofs.Steps.{Read, leaves-room, read-more}
 use Rattle.sheet.proofs.numbers.read_number.Statement.{statement}
 use Rattle.sheet.proofs.numbers.read_number.Tie as tie

@@ -1,15 +1,13 @@
 -- `unpack` meets its contract. The invariant: the numbers of k fields are read, and the others are read from index p on. Assumes nothing.
-use mathlib.Core.Path.{_≡_, refl, sym, _∙_, ap}
+use mathlib.Core.Path.{_≡_, refl, sym, _∙_}
 use mathlib.Core.Bool.{true}
 use mathlib.Core.List.{_++_, append-nil}
-use Prim.Native.Nat.{ℕ, _+_, _-_, _≤_, _<_}
+use Prim.Native.Nat.{_+_, _-_, _≤_}
 use native.Mathlib.Omega.{arith}
 use native.Mathlib.Nat.{le-antisymm}
 use lib.ListN.{length, take, drop, getD, length-set}
 use lib.Seq.{take-all, drop-length}
-use borrow.Author.Needs.{needs}
-use Rattle.records.specs.Numbers.{number, total, narrow, unpacked}
-use Rattle.records.specs.Parts.{part}
+use Rattle.records.specs.Numbers.{total, narrow, unpacked}
 use Rattle.records.proofs.Steps.{total-more, narrow-more, unpack-more}
 use Rattle.sheet.proofs.numbers.unpack.Statement.{statement}
 use Rattle.sheet.proofs.numbers.unpack.Tie as tie

@@ -1,5 +1,5 @@
 -- `frame` meets its contract. Assumes nothing.
-use mathlib.Core.Path.{_≡_, refl, sym, ap, _∙_}
+use mathlib.Core.Path.{ap, _∙_}
 use native.Mathlib.Omega.{arith}
 use Rattle.sheet.specs.Checking.{stated, framed}
 use Rattle.sheet.proofs.Frames.{Sized, size-passed}
