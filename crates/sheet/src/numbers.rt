@@ -1,7 +1,7 @@
 // Numbers in bytes, the lowest byte first, and numbers in fields of given widths, one after the other.
 ghost use mathlib.Core.Path.{_≡_};
 ghost use mathlib.Core.Bool.{true};
-ghost use Prim.Native.Nat.{_+_, _*_, _≤_, _<_};
+ghost use Prim.Native.Nat.{_+_, _≤_, _<_};
 ghost use lib.ListN.{length, getD, drop};
 ghost use mir.Val.{SFits};
 ghost use mir.Syntax.{w16};
