@@ -1,0 +1,79 @@
+-- The bytes of a trailer: what is written is read again, and the marks in bytes. Assumes nothing.
+use mathlib.Core.Path.{_≡_, refl, sym, ap, _∙_}
+use mathlib.Core.Logic.{_↔_}
+use mathlib.Core.List.{List, [], _∷_, _++_}
+use Prim.Native.Nat.{ℕ, _+_, _*_, _^_, _≤_, _<_}
+use native.Mathlib.Omega.{arith}
+use lib.ListN.{length, take, drop, getD, length-drop}
+use lib.Seq.{drop-at, drop-drop}
+use Rattle.records.specs.Numbers.{number, bytes, packed, unpacked}
+use Rattle.records.specs.Parts.{part}
+use Rattle.records.proofs.Numbers.{Bytes, drop-bytes}
+use Rattle.records.proofs.Fields.{Fit, none, more, length-packed, unpacked-packed, packed-unpacked, unpacked-take}
+use Rattle.sheet.specs.Layout.{record-length, trailer-length, trailer-layout, letters, trailer-values, trailer, trailer-from, trailer-at}
+use Rattle.sheet.proofs.Frames.{Marked}
+
+pub length-trailer : (n : ℕ) → length (trailer n) ≡ trailer-length
+unfolding trailer
+length-trailer n = length-packed trailer-layout (trailer-values n) refl
+
+-- its numbers fit their fields, where the distance does
+values-fit : (n : ℕ) → record-length * n < 256 ^ 4 → Fit trailer-layout (trailer-values n)
+values-fit n h =
+    let a : n < 256 ^ 4 = omega arith in
+    let b : record-length < 256 ^ 2 = omega arith in
+    let d : 0 < 256 ^ 2 = omega arith in
+    let e : letters < 256 ^ 4 = omega arith in
+    more h (more a (more b (more d (more e none))))
+
+-- a trailer that was written after a is read again
+pub trailer-again : (a d : List ℕ) (t n : ℕ) → length a ≡ t → record-length * n < 256 ^ 4 → trailer-at (a ++ (trailer n ++ d)) t ≡ trailer-from (trailer-values n)
+unfolding trailer trailer-at
+trailer-again a d t n e h =
+    ap (λ (x : List ℕ). trailer-from (unpacked trailer-layout x)) (drop-at a (packed trailer-layout (trailer-values n) ++ d) t e)
+    ∙ ap trailer-from (unpacked-packed d (values-fit n h))
+
+-- ---- the marks, in bytes
+
+-- the fields of the record length, the zero bytes and the letters, and what stands in them
+marks-layout : List ℕ
+marks-layout = 2 ∷ 2 ∷ 4 ∷ []
+
+abbrev pub marks : List ℕ
+marks = bytes 2 record-length ++ (0 ∷ 0 ∷ 71 ∷ 82 ∷ 78 ∷ 68 ∷ [])
+
+to : (y : List ℕ) → Bytes y → 8 ≤ length y → let v = unpacked marks-layout y in
+    getD v 0 0 ≡ record-length → getD v 1 0 ≡ 0 → getD v 2 0 ≡ letters → take 8 y ≡ marks
+unfolding marks-layout
+to y b h p q r = sym (packed-unpacked marks-layout y b h) ∙ three (number (take 2 y)) (number (take 2 (drop 2 y))) (number (take 4 (drop 2 (drop 2 y)))) p q r
+  where
+    three : (a z l : ℕ) → a ≡ record-length → z ≡ 0 → l ≡ letters → packed marks-layout (a ∷ z ∷ l ∷ []) ≡ marks
+    three a z l p q r = rw (p, q, r)
+
+from : (y : List ℕ) → take 8 y ≡ marks → unpacked marks-layout y ≡ record-length ∷ 0 ∷ letters ∷ []
+unfolding marks-layout
+from y q = sym (unpacked-take marks-layout y 8 (omega arith)) ∙ ap (unpacked marks-layout) q
+
+-- the trailer's last three numbers, from the bytes that hold them
+last-three : (s : List ℕ) (t : ℕ) → let v = unpacked marks-layout (drop (t + 8) s) in
+    let z = trailer-at s t in
+    (z .length ≡ getD v 0 0) × (z .zeros ≡ getD v 1 0) × (z .letters ≡ getD v 2 0)
+unfolding trailer-at marks-layout
+last-three s t =
+    let e : drop 4 (drop 4 (drop t s)) ≡ drop (t + 8) s = drop-drop 4 4 (drop t s) ∙ drop-drop 8 t s in
+    let f : unpacked (2 ∷ 2 ∷ 4 ∷ []) (drop 4 (drop 4 (drop t s))) ≡ unpacked (2 ∷ 2 ∷ 4 ∷ []) (drop (t + 8) s) = ap (unpacked (2 ∷ 2 ∷ 4 ∷ [])) e in
+    (ap (λ (v : List ℕ). getD v 0 0) f, ap (λ (v : List ℕ). getD v 1 0) f, ap (λ (v : List ℕ). getD v 2 0) f)
+
+-- the marks are right exactly where the last eight bytes of the trailer are these
+pub marked-bytes : (s : List ℕ) (t : ℕ) → Bytes s → t + trailer-length ≤ length s → Marked (trailer-at s t) ↔ (part s (t + 8) 8 ≡ marks)
+marked-bytes s t b h =
+    let y = drop (t + 8) s in
+    let e = last-three s t in (
+      λ m. to y (drop-bytes (t + 8) s b) (rw length-drop (omega arith)) (sym (e .0) ∙ m .length-is) (sym (e .1) ∙ m .zeros-are) (sym (e .2) ∙ m .letters-are),
+      λ q. let f = from y q in
+          record {
+            length-is = e .0 ∙ ap (λ (v : List ℕ). getD v 0 0) f;
+            zeros-are = e .1 ∙ ap (λ (v : List ℕ). getD v 1 0) f;
+            letters-are = e .2 ∙ ap (λ (v : List ℕ). getD v 2 0) f;
+          },
+    )

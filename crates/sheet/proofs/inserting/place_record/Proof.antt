@@ -1,0 +1,62 @@
+-- `place_record` meets its contract. Assumes nothing.
+use mathlib.Core.Path.{_≡_, sym, ap, _∙_}
+use mathlib.Core.List.{List}
+use Prim.Native.Nat.{ℕ, _+_, _-_, _*_}
+use native.Mathlib.Omega.{arith}
+use borrow.Author.Needs.{needs}
+use Rattle.records.specs.Parts.{splice, shifted}
+use Rattle.records.specs.Rows.{key, place}
+use Rattle.sheet.specs.declared.Record.{Record}
+use Rattle.sheet.specs.Layout.{record-length, trailer-length, trailer, encoded}
+use Rattle.sheet.specs.Checking.{first, rows}
+use Rattle.sheet.proofs.RecordBytes.{length-encoded, key-encoded}
+use Rattle.sheet.proofs.Inserts.{grown-is}
+use Rattle.sheet.proofs.inserting.place_record.Statement.{statement}
+use Rattle.sheet.proofs.inserting.place_record.Tie as tie
+
+-- the place that was found is that of the record's bytes
+found : (c : tie.After-place-of) → let a = c .before .before .before .args in c .place-of .result ≡ place (key (encoded (a .r))) (rows (a .sheet .now) (a .len) (a .c))
+found c =
+    let s = c .before .before .before in
+    let a = s .args in
+    c .place-of .ensures .0 ∙ ap (λ (x : ℕ). place x (rows (a .sheet .now) (a .len) (a .c))) (sym (key-encoded (a .r) (omega (arith, s .good)) (s .pre .1)))
+
+-- what is written where a place is found
+abbrev written : List ℕ → ℕ → ℕ → Record → ℕ → List ℕ
+written s len c r k =
+    let at = first len c + record-length * k in
+    splice (splice (shifted s at (len - trailer-length) record-length) at (encoded r)) (len - trailer-length + record-length) (trailer (c + 1))
+
+steps : (c : tie.After-put-trailer) → let p = c .before .before .before .before .before .before .before .before .before .before in
+    let a = p .before .before .before .args in
+    c .put-trailer .last .0 ≡ written (a .sheet .now) (a .len) (a .c) (a .r) (p .place-of .result)
+steps c =
+    let p = c .before .before .before .before .put-record in
+    let h = c .before .before .before .before .before .before .before .before .shift-up in
+    c .put-trailer .ensures ∙ rw (p .ensures, h .ensures)
+
+returns : tie.Need-returns
+returns c =
+    let s = c .before .before .before .before .before .before .before .before .before .before .before .before .before .before .before in
+    let a = s .args in
+    steps (c .before .before)
+    ∙ ap (written (a .sheet .now) (a .len) (a .c) (a .r)) (found (c .before .before .before .before .before .before .before .before .before .before .before .before))
+    ∙ grown-is (a .sheet .now) (a .len) (a .c) (encoded (a .r)) (s .pre .0 .0) (s .pre .0 .1) (length-encoded (a .r))
+
+pub place-record-spec : {M : Type 1} → statement M
+place-record-spec =
+    tie.close
+    (tie.spec
+    (λ c. search needs)
+    (λ c. search needs)
+    (λ c. search needs)
+    (λ c κs. search needs)
+    (λ c. search needs)
+    (λ c. search needs)
+    (λ c κs. search needs)
+    (λ c κs. search needs)
+    (λ c. search needs)
+    (λ c. search needs)
+    (λ c κs. search needs)
+    (λ c. search needs)
+    returns)
