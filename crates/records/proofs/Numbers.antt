@@ -7,9 +7,11 @@ use native.Mathlib.Nat.{pow-suc, one-le-pow}
 use native.Mathlib.Numerals.{add-one}
 use lib.ListN.{length, take, drop, getD}
 use lib.Seq.{drop-cons}
+use lib.Dec.{ltb}
 use lib.IntN.{ℤ, pos, negsuc, _-ℤ_}
 use lib.Signed.{mag}
 use borrow.Author.Tests.{lt-ltb, le-ltb}
+use Rattle.integers.proofs.Tests.{cases}
 use Rattle.integers.proofs.Parts.{up, dn, diff-parts, parts-eq}
 use Rattle.records.specs.Numbers.{number, bytes, signed, twos}
 use Rattle.records.specs.Parts.{part}
@@ -80,3 +82,17 @@ pub twos-below : (w : ℕ) (z : ℤ) → mag z < 256 ^ suc w / 2 → twos (suc w
 unfolding twos
 twos-below w (pos n) h = omega arith
 twos-below w (negsuc n) h = omega (arith, one-le-pow (suc w) 256 (omega arith))
+
+-- and back: a number of w bytes, read as signed
+twos-less : (w v : ℕ) → v < 256 ^ suc w → pos v -ℤ pos (256 ^ suc w) ≡ negsuc (256 ^ suc w - suc v)
+unfolding up dn
+twos-less w v h =
+    let f : up (pos v -ℤ pos (256 ^ suc w)) + (0 + 256 ^ suc w) ≡ (v + 0) + dn (pos v -ℤ pos (256 ^ suc w)) = diff-parts (pos v) (pos (256 ^ suc w)) in
+    parts-eq (pos v -ℤ pos (256 ^ suc w)) (negsuc (256 ^ suc w - suc v)) (omega arith)
+
+pub twos-signed : (w v : ℕ) → v < 256 ^ suc w → twos (suc w) (signed (suc w) v) ≡ v
+unfolding signed twos
+twos-signed w v h =
+    cases (ltb v (256 ^ suc w / 2))
+    (λ b. rw b)
+    (λ b. rw (b, twos-less w v h) (omega arith))

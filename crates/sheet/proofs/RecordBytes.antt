@@ -3,13 +3,14 @@ use mathlib.Core.Path.{_≡_, refl, sym, ap, _∙_}
 use mathlib.Core.List.{List, [], _∷_}
 use Prim.Native.Nat.{ℕ, _^_, _<_}
 use native.Mathlib.Omega.{arith}
-use lib.ListN.{length, drop, getD}
+use lib.ListN.{length, take, drop, getD}
+use lib.Seq.{take-all}
 use lib.IntN.{ℤ}
-use Rattle.records.specs.Numbers.{signed, twos, total, packed, unpacked}
+use Rattle.records.specs.Numbers.{number, signed, twos, total, packed, unpacked}
 use Rattle.records.specs.Parts.{part}
 use Rattle.records.specs.Rows.{key}
-use Rattle.records.proofs.Numbers.{Bytes, drop-bytes, signed-twos, twos-below}
-use Rattle.records.proofs.Fields.{Fit, none, more, length-packed, unpacked-all, unpacked-take, unpacked-fit, fit-at}
+use Rattle.records.proofs.Numbers.{Bytes, drop-bytes, number-take, signed-twos, twos-below, twos-signed}
+use Rattle.records.proofs.Fields.{Fit, none, more, length-packed, unpacked-all, packed-unpacked, unpacked-take, unpacked-fit, fit-at}
 use Rattle.sheet.specs.declared.Record.{Record}
 use Rattle.sheet.specs.Layout.{record-length, start-width, layout, values, record-from, encoded, decoded, Fits}
 
@@ -73,6 +74,20 @@ pub decoded-encoded : (r : Record) → r .number < 256 ^ 4 → Fits (r .outline)
 unfolding decoded encoded
 decoded-encoded r n f =
     ap record-from (unpacked-all (values-fit r n f)) ∙ simp (signed-twos 1 (r .outline .i) (f .fits-i), signed-twos 1 (r .outline .j) (f .fits-j))
+
+-- and the bytes of a record that was read are those that were there
+values-again : (b : List ℕ) → Bytes b → values (decoded b) ≡ unpacked layout b
+unfolding decoded
+values-again b h =
+    rw (
+      twos-signed 1 (number (take 2 (drop 4 b))) (number-take 2 (drop 4 b) (drop-bytes 4 b h)),
+      twos-signed 1 (number (take 2 (drop 2 (drop 4 b)))) (number-take 2 (drop 2 (drop 4 b)) (drop-bytes 2 (drop 4 b) (drop-bytes 4 b h))),
+    )
+
+pub encoded-decoded : (b : List ℕ) → Bytes b → length b ≡ record-length → encoded (decoded b) ≡ b
+unfolding encoded
+encoded-decoded b h l =
+    ap (packed layout) (values-again b h) ∙ packed-unpacked layout b h (omega arith) ∙ take-all record-length b (omega arith)
 
 -- its plot number is its first field
 pub key-decoded : (b : List ℕ) → key b ≡ decoded b .number
