@@ -1,0 +1,27 @@
+-- `digested` is safe and ends: the measure is what is left of the set. Assumes nothing.
+use Prim.Native.Nat.{_-_}
+use lib.ListN.{length}
+use borrow.Author.Needs.{needs}
+use Rattle.brute_force.proofs.tally.digested.Statement.{statement}
+use Rattle.brute_force.proofs.tally.digested.Tie as tie
+
+abbrev Inv-loop : tie.InvT-loop
+Inv-loop digest set d₀ i₀ d i = Unit {0}
+
+abbrev μ-loop : tie.MeasureT-loop
+μ-loop digest set d₀ i₀ d i = length set - i
+
+pub digested-spec : {M : Type 1} → statement M
+digested-spec =
+    tie.close
+    (tie.spec
+    Inv-loop
+    μ-loop
+    (λ c. search needs)
+    (λ c. search needs)
+    (λ c κs. search needs)
+    (λ c. search needs)
+    (λ c. search needs)
+    (λ c. search needs)
+    (λ c κs. search needs)
+    (λ c. search needs))
