@@ -1,0 +1,52 @@
+-- Numbers in fields of given widths: the way there and back. Assumes nothing.
+use mathlib.Core.Path.{_≡_, refl, sym, ap, _∙_}
+use mathlib.Core.List.{List, [], _∷_, _++_, append-assoc, append-nil}
+use Prim.Native.Nat.{ℕ, zero, suc, _+_, _-_, _^_, _≤_, _<_}
+use native.Mathlib.Omega.{arith}
+use lib.ListN.{length, take, drop, getD, length-append, length-drop}
+use lib.Seq.{take-at, drop-at, take-add, take-take}
+use Rattle.records.specs.Numbers.{number, bytes, total, packed, unpacked}
+use Rattle.records.proofs.Parts.{between-part}
+use Rattle.records.proofs.Numbers.{Bytes, drop-bytes, number-take, length-bytes, number-bytes, bytes-number}
+
+-- as many numbers as fields, each within its width
+pub data Fit : List ℕ → List ℕ → Type 0 where
+  none : Fit [] []
+  more : {w v : ℕ} {ws vs : List ℕ} → v < 256 ^ w → Fit ws vs → Fit (w ∷ ws) (v ∷ vs)
+
+pub length-packed : (ws vs : List ℕ) → length ws ≡ length vs → length (packed ws vs) ≡ total ws
+length-packed [] vs e = refl
+length-packed (w ∷ ws) [] e = absurd (omega arith)
+length-packed (w ∷ ws) (v ∷ vs) e = length-append (bytes w v) (packed ws vs) ∙ omega (arith, length-bytes w v, length-packed ws vs (omega arith))
+
+-- numbers that were written are read again
+pub unpacked-packed : {ws vs : List ℕ} (z : List ℕ) → Fit ws vs → unpacked ws (packed ws vs ++ z) ≡ vs
+unpacked-packed z none = refl
+unpacked-packed z (more {w = w} {v = v} {ws = ws} {vs = vs} h f) =
+    let e = append-assoc (bytes w v) (packed ws vs) z in
+    rw (e, take-at (bytes w v) (packed ws vs ++ z) w (length-bytes w v), drop-at (bytes w v) (packed ws vs ++ z) w (length-bytes w v), number-bytes w v h, unpacked-packed z f)
+
+pub unpacked-all : {ws vs : List ℕ} → Fit ws vs → unpacked ws (packed ws vs) ≡ vs
+unpacked-all {ws} {vs} f = rw (append-nil (packed ws vs)) at (unpacked-packed [] f)
+
+-- and bytes that were read are written again
+pub packed-unpacked : (ws s : List ℕ) → Bytes s → total ws ≤ length s → packed ws (unpacked ws s) ≡ take (total ws) s
+packed-unpacked [] s h l = refl
+packed-unpacked (w ∷ ws) s h l =
+    rw (bytes-number w s h (omega arith), packed-unpacked ws (drop w s) (drop-bytes w s h) (rw length-drop (omega arith)), take-add)
+
+-- what is read lies within the fields
+pub unpacked-take : (ws s : List ℕ) (L : ℕ) → total ws ≤ L → unpacked ws (take L s) ≡ unpacked ws s
+unpacked-take [] s L h = refl
+unpacked-take (w ∷ ws) s L h =
+    rw (take-take w L s (omega arith), between-part w L s) (ap (λ (x : List ℕ). number (take w s) ∷ x) (unpacked-take ws (drop w s) (L - w) (omega arith)))
+
+-- numbers that were read from bytes fit their fields
+pub unpacked-fit : (ws s : List ℕ) → Bytes s → Fit ws (unpacked ws s)
+unpacked-fit [] s h = none
+unpacked-fit (w ∷ ws) s h = more (number-take w s h) (unpacked-fit ws (drop w s) (drop-bytes w s h))
+
+pub fit-at : {ws vs : List ℕ} (k : ℕ) → k < length ws → Fit ws vs → getD vs k 0 < 256 ^ getD ws k 0
+fit-at k h none = absurd (omega arith)
+fit-at zero h (more l f) = l
+fit-at (suc k) h (more l f) = fit-at k (omega arith) f

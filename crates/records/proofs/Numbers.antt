@@ -1,0 +1,84 @@
+-- Numbers in bytes: a part read byte by byte, the way there and back, and two's complement. Assumes nothing.
+use mathlib.Core.Path.{_≡_, refl, sym, ap, _∙_}
+use mathlib.Core.Bool.{cond, true, false}
+use mathlib.Core.List.{List, [], _∷_}
+use Prim.Native.Nat.{ℕ, zero, suc, _+_, _-_, _*_, _/_, _%_, _^_, _≤_, _<_}
+use native.Mathlib.Omega.{arith}
+use native.Mathlib.Nat.{pow-suc, one-le-pow}
+use native.Mathlib.Numerals.{add-one}
+use lib.ListN.{length, take, drop, getD}
+use lib.Seq.{drop-cons}
+use lib.Dec.{ltb}
+use lib.IntN.{ℤ, pos, negsuc, _-ℤ_}
+use lib.Signed.{mag}
+use borrow.Author.Tests.{lt-ltb, le-ltb}
+use Rattle.integers.proofs.Parts.{up, dn, diff-parts, parts-eq}
+use Rattle.records.specs.Numbers.{number, bytes, signed, twos}
+use Rattle.records.specs.Parts.{part}
+
+-- ---- reading
+
+-- the first byte of a part, and the others
+pub part-suc : (s : List ℕ) (at n : ℕ) → at < length s → part s at (suc n) ≡ getD s at 0 ∷ part s (at + 1) n
+part-suc s at n h = rw (add-one at, drop-cons s at 0 h)
+
+pub number-suc : (s : List ℕ) (at n : ℕ) → at < length s → number (part s at (suc n)) ≡ getD s at 0 + 256 * number (part s (at + 1) n)
+number-suc s at n h = ap number (part-suc s at n h)
+
+-- each element is a byte
+abbrev pub Bytes : List ℕ → Type 0
+Bytes s = (i : ℕ) → getD s i 0 < 256
+
+tail-bytes : (b : ℕ) (s : List ℕ) → Bytes (b ∷ s) → Bytes s
+tail-bytes b s h i = h (suc i)
+
+pub drop-bytes : (n : ℕ) (s : List ℕ) → Bytes s → Bytes (drop n s)
+drop-bytes zero s h = h
+drop-bytes (suc n) [] h = h
+drop-bytes (suc n) (b ∷ s) h = drop-bytes n s (tail-bytes b s h)
+
+-- w bytes hold a number below 256 ^ w
+pub number-take : (w : ℕ) (s : List ℕ) → Bytes s → number (take w s) < 256 ^ w
+number-take zero s h = omega arith
+number-take (suc w) [] h = one-le-pow (suc w) 256 (omega arith)
+number-take (suc w) (b ∷ s) h = rw pow-suc (omega (arith, h 0, number-take w s (tail-bytes b s h)))
+
+pub number-below : (s : List ℕ) (at n : ℕ) → Bytes s → number (part s at n) < 256 ^ n
+number-below s at n h = number-take n (drop at s) (drop-bytes at s h)
+
+-- ---- there and back
+
+pub length-bytes : (w v : ℕ) → length (bytes w v) ≡ w
+length-bytes zero v = refl
+length-bytes (suc w) v = ap suc (length-bytes w (v / 256))
+
+pub number-bytes : (w v : ℕ) → v < 256 ^ w → number (bytes w v) ≡ v
+number-bytes zero v h = omega arith
+number-bytes (suc w) v h = omega (arith, number-bytes w (v / 256) (omega (arith, pow-suc 256 w)))
+
+pub bytes-number : (w : ℕ) (s : List ℕ) → Bytes s → w ≤ length s → bytes w (number (take w s)) ≡ take w s
+bytes-number zero s h l = refl
+bytes-number (suc w) [] h l = absurd (omega arith)
+bytes-number (suc w) (b ∷ s) h l =
+    let n = number (take w s) in
+    let k = h 0 in
+    let e : (b + 256 * n) % 256 ≡ b = omega arith in
+    let f : (b + 256 * n) / 256 ≡ n = omega arith in
+    rw (e, f, bytes-number w s (tail-bytes b s h) (omega arith))
+
+-- ---- two's complement
+
+-- a number of w bytes, signed: its magnitude is below half of what they hold
+pub signed-twos : (w : ℕ) (z : ℤ) → mag z < 256 ^ suc w / 2 → signed (suc w) (twos (suc w) z) ≡ z
+unfolding signed twos up dn
+signed-twos w (pos n) h = rw (lt-ltb n (256 ^ suc w / 2) h)
+signed-twos w (negsuc n) h =
+    let v = 256 ^ suc w - suc n in
+    let e : 256 ^ suc w ≡ 256 ^ w * 256 = pow-suc 256 w in
+    let f : up (pos v -ℤ pos (256 ^ suc w)) + (0 + 256 ^ suc w) ≡ (v + 0) + dn (pos v -ℤ pos (256 ^ suc w)) = diff-parts (pos v) (pos (256 ^ suc w)) in
+    rw (le-ltb v (256 ^ suc w / 2) (omega arith)) (parts-eq (pos v -ℤ pos (256 ^ suc w)) (negsuc n) (omega arith))
+
+pub twos-below : (w : ℕ) (z : ℤ) → mag z < 256 ^ suc w / 2 → twos (suc w) z < 256 ^ suc w
+unfolding twos
+twos-below w (pos n) h = omega arith
+twos-below w (negsuc n) h = omega (arith, one-le-pow (suc w) 256 (omega arith))

@@ -1,0 +1,60 @@
+-- The order of records by plot number: one more record keeps it, and where a number stands. Assumes nothing.
+use mathlib.Core.Path.{_≡_, refl, sym}
+use mathlib.Core.Bool.{Bool, true, false, cond, _||_}
+use mathlib.Core.List.{List, [], _∷_}
+use Prim.Native.Nat.{ℕ, zero, suc, _+_, _-_, _*_, _≤_, _<_}
+use native.Mathlib.Omega.{arith}
+use lib.Dec.{ltb, eqb}
+use borrow.Author.Tests.{lt-ltb, le-ltb, eq-eqb, ne-eqb, ltb-true, ltb-false, eqb-false}
+use Rattle.records.specs.Numbers.{number}
+use Rattle.records.specs.Parts.{part}
+use Rattle.records.specs.Rows.{records, key-width, key, Rising, none, more, present, place, placed}
+use Rattle.records.proofs.Rows.{key-at}
+
+-- ---- the order is kept
+
+pub or-false : (x y : Bool) → x || y ≡ false → (x ≡ false) × (y ≡ false)
+or-false true y e = absurd (let z : _≡_ {A = ℕ} 0 1 = cc in omega arith)
+or-false false y e = (refl, e)
+
+-- records in order with one more, whose number is not among theirs, are in order
+pub rising-placed : {P : List ℕ → Type 0} {v : ℕ} {rs : List (List ℕ)} (r : List ℕ) → v < key r → P r → present (key r) rs ≡ false
+    → Rising P v rs → Rising P v (placed r rs)
+rising-placed r h p n none = more h p none
+rising-placed {P} {v} r h p n (more {r = a} {rs = rs} l q m) =
+    let e = or-false (eqb (key a) (key r)) (present (key r) rs) n in
+    pick (ltb (key a) (key r)) refl (eqb-false (key a) (key r) (e .0)) (λ g. rising-placed r g p (e .1) m)
+  where
+    pick : (b : Bool) → b ≡ ltb (key a) (key r) → (key a ≡ key r → ⊥) → (key a < key r → Rising P (key a) (placed r rs)) → Rising P v (cond b (a ∷ placed r rs) (r ∷ a ∷ rs))
+    pick true e f g = more {r = a} l q (g (ltb-true (key a) (key r) (sym e)))
+    pick false e f g = let k : key r ≤ key a = ltb-false (key a) (key r) (sym e) in more {r = r} h p (more {v = key r} {r = a} (omega arith) q m)
+
+-- ---- where a number stands: the first record decides, or the others do
+
+module _ (L : ℕ) (s : List ℕ) (p : ℕ) where
+  place-more : (n v : ℕ) → key-width ≤ L → 0 < n
+      → place v (records L s p n) ≡ cond (ltb (number (part s p key-width)) v) (suc (place v (records L s (p + L) (n - 1)))) 0
+  place-more zero v h k = absurd (omega arith)
+  place-more (suc n) v h k = let e : suc n - 1 ≡ n = omega arith in rw (e, key-at L s p h)
+
+  present-more : (n v : ℕ) → key-width ≤ L → 0 < n
+      → present v (records L s p n) ≡ eqb (number (part s p key-width)) v || present v (records L s (p + L) (n - 1))
+  present-more zero v h k = absurd (omega arith)
+  present-more (suc n) v h k = let e : suc n - 1 ≡ n = omega arith in rw (e, key-at L s p h)
+
+  pub present-end : (n v : ℕ) → n ≤ 0 → present v (records L s p n) ≡ false
+  present-end zero v h = refl
+  present-end (suc n) v h = absurd (omega arith)
+
+module _ (L : ℕ) (s : List ℕ) (p n v : ℕ) (h : key-width ≤ L) (k : 0 < n) where
+  pub place-here : v ≤ number (part s p key-width) → place v (records L s p n) ≡ 0
+  place-here q = rw (place-more L s p n v h k, le-ltb (number (part s p key-width)) v q)
+
+  pub place-on : number (part s p key-width) < v → place v (records L s p n) ≡ suc (place v (records L s (p + L) (n - 1)))
+  place-on q = rw (place-more L s p n v h k, lt-ltb (number (part s p key-width)) v q)
+
+  pub present-here : number (part s p key-width) ≡ v → present v (records L s p n) ≡ true
+  present-here q = rw (present-more L s p n v h k, eq-eqb (number (part s p key-width)) v q)
+
+  pub present-on : (number (part s p key-width) ≡ v → ⊥) → present v (records L s p n) ≡ present v (records L s (p + L) (n - 1))
+  present-on q = rw (present-more L s p n v h k, ne-eqb (number (part s p key-width)) v q)

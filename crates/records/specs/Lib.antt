@@ -1,0 +1,4 @@
+-- What the contracts of the crates above cite of bytes and of records in bytes.
+pub mod Numbers
+pub mod Parts
+pub mod Rows

@@ -1,0 +1,109 @@
+-- The frame of a sheet, its length and its trailer: what each test says, and where the records of an accepted frame stand.
+-- Assumes nothing.
+use mathlib.Core.Path.{_≡_, refl, sym, ap, _∙_}
+use mathlib.Core.Bool.{Bool, true, false, cond, not, _||_}
+use mathlib.Core.List.{List}
+use Prim.Native.Nat.{ℕ, _+_, _-_, _*_, _≤_}
+use native.Mathlib.Omega.{arith}
+use lib.ListN.{length}
+use lib.Dec.{ltb, eqb}
+use borrow.Author.Tests.{ltb-false, le-ltb, eqb-true, eq-eqb, not-false}
+use Rattle.octagon.specs.Outcome.{Outcome, accepted, refused}
+use Rattle.octagon.proofs.Outcomes.{accepted-same, accepted-not-refused}
+use Rattle.records.proofs.Order.{or-false}
+use Rattle.sheet.specs.declared.trailer.Trailer.{Trailer}
+use Rattle.sheet.specs.Layout.{sheet-limit, record-length, trailer-length, letters, trailer-at}
+use Rattle.sheet.specs.Answers.{bad-length, bad-trailer, bad-distance}
+use Rattle.sheet.specs.Checking.{wrong-length, wrong-marks, wrong-distance, stated, framed, Framed}
+
+-- ---- the length
+
+-- a length that a sheet may have in the buffer s
+pub record Sized (s : List ℕ) (len : ℕ) : Type 0 where
+  pub long : trailer-length ≤ len
+  pub short : len ≤ sheet-limit
+  pub within : len ≤ length s
+
+pub size-passed : (s : List ℕ) (len : ℕ) → wrong-length s len ≡ false → Sized s len
+size-passed s len e =
+    let p = or-false (ltb len trailer-length || ltb sheet-limit len) (ltb (length s) len) e in
+    let q = or-false (ltb len trailer-length) (ltb sheet-limit len) (p .0) in
+    record { long = ltb-false len trailer-length (q .0); short = ltb-false sheet-limit len (q .1); within = ltb-false (length s) len (p .1) }
+
+pub sized : (s : List ℕ) (len : ℕ) → Sized s len → wrong-length s len ≡ false
+sized s len h = rw (le-ltb len trailer-length (h .long), le-ltb sheet-limit len (h .short), le-ltb (length s) len (h .within))
+
+-- ---- the trailer
+
+-- its record length, its zero bytes and its letters are right
+pub record Marked (z : Trailer) : Type 0 where
+  pub length-is : z .length ≡ record-length
+  pub zeros-are : z .zeros ≡ 0
+  pub letters-are : z .letters ≡ letters
+
+pub marks-passed : (z : Trailer) → wrong-marks z ≡ false → Marked z
+marks-passed z e =
+    let a = or-false (not (eqb (z .length) record-length) || not (eqb (z .zeros) 0)) (not (eqb (z .letters) letters)) e in
+    let b = or-false (not (eqb (z .length) record-length)) (not (eqb (z .zeros) 0)) (a .0) in
+    record {
+      length-is = eqb-true (z .length) record-length (not-false _ (b .0));
+      zeros-are = eqb-true (z .zeros) 0 (not-false _ (b .1));
+      letters-are = eqb-true (z .letters) letters (not-false _ (a .1));
+    }
+
+pub marked : (z : Trailer) → Marked z → wrong-marks z ≡ false
+marked z h = rw (h .length-is, h .zeros-are, h .letters-are)
+
+-- its distance is that of its records, which lie within a sheet of len bytes
+pub record Located (len : ℕ) (z : Trailer) : Type 0 where
+  pub distance-is : z .distance ≡ record-length * z .count
+  pub near : z .distance ≤ len - trailer-length
+
+pub place-passed : (len : ℕ) (z : Trailer) → wrong-distance len z ≡ false → Located len z
+place-passed len z e =
+    let d = or-false (not (eqb (z .distance) (record-length * z .count))) (ltb (len - trailer-length) (z .distance)) e in
+    record {
+      distance-is = eqb-true (z .distance) (record-length * z .count) (not-false _ (d .0));
+      near = ltb-false (len - trailer-length) (z .distance) (d .1);
+    }
+
+pub located : (len : ℕ) (z : Trailer) → Located len z → wrong-distance len z ≡ false
+located len z h = rw (eq-eqb (z .distance) (record-length * z .count) (h .distance-is), le-ltb (len - trailer-length) (z .distance) (h .near))
+
+-- ---- the frame
+
+-- a length, marks and a distance that are right, and the count c
+pub record Sound (s : List ℕ) (len c : ℕ) : Type 0 where
+  pub size : Sized s len
+  pub marks : Marked (trailer-at s (len - trailer-length))
+  pub place : Located len (trailer-at s (len - trailer-length))
+  pub count : trailer-at s (len - trailer-length) .count ≡ c
+
+-- an accepted outcome past a test is none of its refusals
+pub past : {A : Type 0} (b : Bool) (k : ℕ) (o : Outcome A) (a : A) → cond b (refused k) o ≡ accepted a → (b ≡ false) × (o ≡ accepted a)
+past true k o a e = absurd (accepted-not-refused (sym e))
+past false k o a e = (refl, e)
+
+-- a frame is accepted exactly where it is sound
+pub framed-sound : (s : List ℕ) (len c : ℕ) → framed s len ≡ accepted c → Sound s len c
+unfolding framed stated
+framed-sound s len c e =
+    let z = trailer-at s (len - trailer-length) in
+    let p = past (wrong-length s len) bad-length _ c e in
+    let q = past (wrong-marks z) bad-trailer _ c (p .1) in
+    let r = past (wrong-distance len z) bad-distance _ c (q .1) in
+    record { size = size-passed s len (p .0); marks = marks-passed z (q .0); place = place-passed len z (r .0); count = accepted-same (r .1) }
+
+pub framed-when : (s : List ℕ) (len c : ℕ) → Sound s len c → framed s len ≡ accepted c
+unfolding framed stated
+framed-when s len c h =
+    let z = trailer-at s (len - trailer-length) in
+    rw (sized s len (h .size), marked z (h .marks), located len z (h .place), h .count)
+
+-- where the records of an accepted frame stand
+pub framed-known : (s : List ℕ) (len c : ℕ) → framed s len ≡ accepted c → Framed s len c
+framed-known s len c e =
+    let f = framed-sound s len c e in
+    let z = f .size in
+    let n = f .place in
+    record { within = z .within; short = z .short; long = omega (arith, f .count) }

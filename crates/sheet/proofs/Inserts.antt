@@ -1,0 +1,133 @@
+-- An insert step by step: who is admitted, and the bytes that one more record leaves. Assumes nothing.
+use mathlib.Core.Path.{_≡_, refl, sym, ap, _∙_}
+use mathlib.Core.Bool.{Bool, true, false, _||_}
+use mathlib.Core.List.{List, [], _∷_, _++_}
+use Prim.Native.Nat.{ℕ, _+_, _-_, _*_, _≤_, _<_}
+use native.Mathlib.Omega.{arith}
+use native.Mathlib.Nat.{mul-le-mul-left}
+use lib.ListN.{length, take, drop}
+use lib.Dec.{ltb, eqb}
+use borrow.Author.Tests.{ltb-false, eqb-false}
+use Rattle.octagon.specs.declared.Octagon.{Octagon}
+use Rattle.octagon.specs.Outcome.{Outcome, accepted, refused, then}
+use Rattle.octagon.proofs.Outcomes.{accepted-same, accepted-not-refused}
+use Rattle.outline.specs.Tracing.{traced}
+use Rattle.records.specs.Parts.{between, splice, shifted, opened}
+use Rattle.records.specs.Rows.{joined, key, present, place, placed}
+use Rattle.records.proofs.Fields.{length-packed}
+use Rattle.records.proofs.Moves.{open-is, close-is}
+use Rattle.records.proofs.Rows.{place-le, length-records, placed-bytes}
+use Rattle.records.proofs.Order.{or-false}
+use Rattle.sheet.specs.declared.Record.{Record}
+use Rattle.sheet.specs.Layout.{sheet-limit, record-length, trailer-length, trailer-layout, letters, trailer, encoded}
+use Rattle.sheet.specs.Answers.{bad-number, no-room}
+use Rattle.sheet.specs.Checking.{Framed, first, rows, checked}
+use Rattle.sheet.specs.Writing.{left, admitted, vetted, insertion, inserted, grown, after-insert}
+use Rattle.sheet.proofs.Frames.{past}
+
+-- ---- who is admitted
+
+module _ (s : List ℕ) (len v c : ℕ) where
+  pub admit-number : (eqb v 0 || present v (rows s len c)) ≡ true → admitted s len v c ≡ refused bad-number
+  unfolding admitted
+  admit-number e = rw e
+
+  pub admit-room : (eqb v 0 || present v (rows s len c)) ≡ false → (ltb (length s) (len + record-length) || ltb sheet-limit (len + record-length)) ≡ true
+      → admitted s len v c ≡ refused no-room
+  unfolding admitted
+  admit-room e f = rw (e, f)
+
+  pub admit-good : (eqb v 0 || present v (rows s len c)) ≡ false → (ltb (length s) (len + record-length) || ltb sheet-limit (len + record-length)) ≡ false
+      → admitted s len v c ≡ accepted c
+  unfolding admitted
+  admit-good e f = rw (e, f)
+
+-- what an accepted number and length say
+pub record Admitted (s : List ℕ) (len v c : ℕ) : Type 0 where
+  pub above : 0 < v
+  pub new : present v (rows s len c) ≡ false
+  pub within : len + record-length ≤ length s
+  pub short : len + record-length ≤ sheet-limit
+
+pub admitted-passed : (s : List ℕ) (len v c n : ℕ) → admitted s len v c ≡ accepted n → Admitted s len v c × (n ≡ c)
+unfolding admitted
+admitted-passed s len v c n e =
+    let p = past (eqb v 0 || present v (rows s len c)) bad-number _ n e in
+    let q = past (ltb (length s) (len + record-length) || ltb sheet-limit (len + record-length)) no-room (accepted c) n (p .1) in
+    let a = or-false (eqb v 0) (present v (rows s len c)) (p .0) in
+    let b = or-false (ltb (length s) (len + record-length)) (ltb sheet-limit (len + record-length)) (q .0) in
+    let z : v ≡ 0 → ⊥ = eqb-false v 0 (a .0) in (
+      record {
+        above = omega arith;
+        new = a .1;
+        within = ltb-false (length s) (len + record-length) (b .0);
+        short = ltb-false sheet-limit (len + record-length) (b .1);
+      },
+      sym (accepted-same (q .1)),
+    )
+
+-- ---- the order of the refusals
+
+pub vet-check : {k : ℕ} (s : List ℕ) (len v : ℕ) → checked s len ≡ refused k → vetted s len v ≡ refused k
+unfolding vetted
+vet-check s len v e = rw e
+
+pub vet-admit : {c : ℕ} (s : List ℕ) (len v : ℕ) → checked s len ≡ accepted c → vetted s len v ≡ admitted s len v c
+unfolding vetted
+vet-admit s len v e = rw e
+
+pub vetted-passed : (s : List ℕ) (len v c : ℕ) → vetted s len v ≡ accepted c → (checked s len ≡ accepted c) × Admitted s len v c
+vetted-passed s len v c e = go (checked s len) refl
+  where
+    go : (o : Outcome ℕ) → checked s len ≡ o → (checked s len ≡ accepted c) × Admitted s len v c
+    go (refused k) q = absurd (accepted-not-refused (sym e ∙ vet-check s len v q))
+    go (accepted n) q =
+        let p = admitted-passed s len v n c (sym (vet-admit s len v q) ∙ e) in
+        (q ∙ ap accepted (sym (p .1)), rw (← p .1) at (p .0))
+
+-- the outline is refused, and nothing is touched
+pub insert-outline : {k : ℕ} (s : List ℕ) (len : ℕ) (r : Record) → traced (r .outline) ≡ refused k → (refused k ≡ inserted s len r) × (s ≡ after-insert s len r)
+unfolding insertion inserted after-insert
+insert-outline s len r e = rw e (refl, refl)
+
+-- the outline is accepted, and the sheet decides
+pub insert-sheet : {o : Octagon} (s : List ℕ) (len : ℕ) (r : Record) → traced (r .outline) ≡ accepted o
+    → (then (vetted s len (r .number)) (λ _. accepted (len + record-length)) ≡ inserted s len r)
+    × (left s (vetted s len (r .number)) (λ c. grown s len c (encoded r)) ≡ after-insert s len r)
+unfolding insertion inserted after-insert
+insert-sheet s len r e = rw e (refl, refl)
+
+-- ---- what is left
+
+pub length-trailer : (n : ℕ) → length (trailer n) ≡ trailer-length
+unfolding trailer
+length-trailer n = length-packed trailer-layout (record-length * n ∷ n ∷ record-length ∷ 0 ∷ letters ∷ []) refl
+
+-- the place of a number is within the records
+pub place-within : (s : List ℕ) (len c v : ℕ) → record-length * place v (rows s len c) ≤ record-length * c
+place-within s len c v =
+    mul-le-mul-left record-length (omega (arith, place-le v (rows s len c), length-records record-length s (first len c) c))
+
+-- the bytes from the place on moved up, the record and the trailer written
+pub grown-is : (s : List ℕ) (len c : ℕ) (b : List ℕ) → Framed s len c → len + record-length ≤ length s → length b ≡ record-length
+    → let at = first len c + record-length * place (key b) (rows s len c) in
+    let end = len - trailer-length in
+    splice (splice (shifted s at end record-length) at b) (end + record-length) (trailer (c + 1)) ≡ grown s len c b
+unfolding grown
+grown-is s len c b f h l =
+    let at = first len c + record-length * place (key b) (rows s len c) in
+    let end = len - trailer-length in
+    let w = place-within s len c (key b) in
+    let e : first len c + record-length * c ≡ end = omega (arith, f .long) in
+    let d : end + record-length + trailer-length ≡ len + record-length = omega (arith, f .long) in
+    let z = length-trailer (c + 1) in
+    let o : splice (shifted s at end record-length) at b ≡ opened s at end b =
+    ap (λ (x : ℕ). splice (shifted s at end x) at b) (sym l) ∙ open-is s at end b (omega (arith, f .long)) (omega (arith, f .within)) in
+    let p : take at s ++ (b ++ between s at end) ≡ take (first len c) s ++ joined (placed b (rows s len c)) =
+    ap (λ (x : ℕ). take at s ++ (b ++ between s at x)) (sym e) ∙ placed-bytes record-length s (first len c) c b in
+    let q : splice (opened s at end b) (end + length b) (trailer (c + 1)) ≡ take at s ++ (b ++ between s at end) ++ trailer (c + 1) ++ drop (end + length b + length (trailer (c + 1))) s =
+    close-is s at end b (trailer (c + 1)) (omega (arith, f .long)) (omega (arith, f .long)) in
+    ap (λ (x : List ℕ). splice x (end + record-length) (trailer (c + 1))) o
+    ∙ ap (λ (x : ℕ). splice (opened s at end b) (end + x) (trailer (c + 1))) (sym l)
+    ∙ q
+    ∙ rw (l, z, d, p)

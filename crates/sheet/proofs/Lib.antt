@@ -1,0 +1,10 @@
+-- Theorems on sheets.
+pub mod TwosComplement
+pub mod RecordBytes
+pub mod Frames
+pub mod Surveys
+pub mod Checks
+pub mod Starts
+pub mod Inserts
+pub mod Outlines
+pub mod CheckCases

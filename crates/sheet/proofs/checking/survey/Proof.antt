@@ -1,0 +1,59 @@
+-- `survey` meets its contract. The invariant: the records that are left decide. Assumes nothing.
+use mathlib.Core.Path.{_≡_, refl, sym, ap, _∙_}
+use Prim.Native.Nat.{ℕ, _+_, _-_, _*_, _≤_, _<_}
+use native.Mathlib.Omega.{arith}
+use lib.ListN.{length}
+use borrow.Author.Needs.{needs}
+use Rattle.records.specs.Rows.{records}
+use Rattle.sheet.specs.Layout.{record-length}
+use Rattle.sheet.specs.Answers.{count-of}
+use Rattle.sheet.specs.Checking.{surveyed}
+use Rattle.sheet.proofs.Surveys.{survey-refused, survey-more, survey-end}
+use Rattle.sheet.proofs.checking.survey.Statement.{statement}
+use Rattle.sheet.proofs.checking.survey.Tie as tie
+
+abbrev Inv-loop : tie.InvT-loop
+Inv-loop s first count p₀ before₀ left₀ p before left =
+    (p + record-length * left ≤ length s)
+    × (surveyed count 0 (records record-length s first count) ≡ surveyed count before (records record-length s p left))
+
+abbrev μ-loop : tie.MeasureT-loop
+μ-loop s first count p₀ before₀ left₀ p before left = left
+
+returns : tie.Need-returns Inv-loop μ-loop
+returns c =
+    let l = c .before .before .before .before .loop in
+    let a = c .before .before .before .before .before .before .args in
+    let e = ap count-of (c .enum-told .given .1) in
+    e ∙ sym (l .inv .1 ∙ survey-refused (a .count) (l .before) (a .s .now) (l .p) (l .left) _ (c .before .before .before .loop-test .taken) (sym (c .before .before .judge .ensures) ∙ e))
+
+loop-again : tie.Need-loop-again Inv-loop μ-loop
+loop-again c =
+    let l = c .before .before .before .before .before .loop in
+    let a = c .before .before .before .before .before .before .before .args in (
+      omega arith,
+      l .inv .1 ∙ survey-more (a .count) (l .before) (a .s .now) (l .p) (l .left) _ (c .before .before .before .before .loop-test .taken) (sym (c .before .before .before .judge .ensures) ∙ ap count-of (c .before .answer .given .1)),
+    )
+
+returns-2 : tie.Need-returns-2 Inv-loop μ-loop
+returns-2 c =
+    let l = c .before .loop in
+    let a = c .before .before .before .args in
+    sym (l .inv .1 ∙ survey-end (a .count) (l .before) (a .s .now) (l .p) (l .left) (c .loop-test .left))
+
+pub survey-spec : {M : Type 1} → statement M
+survey-spec =
+    tie.close
+    (tie.spec
+    Inv-loop
+    μ-loop
+    (λ c. (omega arith, refl))
+    (λ c κs. omega arith)
+    (λ c. search needs)
+    (λ c. search needs)
+    returns
+    (λ c. omega arith)
+    (λ c. omega arith)
+    (λ c. omega arith)
+    loop-again
+    returns-2)

@@ -1,0 +1,42 @@
+-- `insert` meets its contract. Assumes nothing.
+use mathlib.Core.Path.{_≡_, sym, ap, _∙_}
+use borrow.Author.Needs.{needs}
+use Rattle.octagon.specs.declared.Octagon.{Octagon}
+use Rattle.octagon.specs.Outcome.{accepted}
+use Rattle.octagon.specs.Answers.{outcome}
+use Rattle.outline.specs.Tracing.{traced}
+use Rattle.sheet.proofs.Outlines.{accepted-fits}
+use Rattle.sheet.proofs.Inserts.{insert-outline, insert-sheet}
+use Rattle.sheet.proofs.insert.Statement.{statement}
+use Rattle.sheet.proofs.insert.Tie as tie
+
+-- the octagon of an outline that is accepted
+octagon : (c : tie.After-enum-told) → (o : Octagon) × (traced (c .before .before .before .before .before .args .r .outline) ≡ accepted o)
+octagon c = (_, sym (c .before .before .to-octagon .ensures) ∙ ap outcome (c .enum-told .given .1))
+
+insert-traced-requires : tie.Need-insert-traced-requires
+insert-traced-requires c κs = let o = octagon (c .before) in accepted-fits (c .before .before .before .before .before .before .args .r .outline) (o .0) (o .1)
+
+returns : tie.Need-returns
+returns c =
+    let a = c .before .before .before .before .before .before .args in
+    insert-outline (a .sheet .now) (a .len) (a .r) (sym (c .before .before .before .to-octagon .ensures) ∙ ap outcome (c .before .e .given .1))
+
+returns-2 : tie.Need-returns-2
+returns-2 c =
+    let a = c .before .before .before .before .before .before .before .before .before .args in
+    let t = c .before .before .insert-traced .ensures in
+    let e = insert-sheet (a .sheet .now) (a .len) (a .r) (octagon (c .before .before .before .before) .1) in
+    (t .0 ∙ e .0, t .1 ∙ e .1)
+
+pub insert-spec : {M : Type 1} → statement M
+insert-spec =
+    tie.close
+    (tie.spec
+    (λ c κs. search needs)
+    (λ c. search needs)
+    (λ c. search needs)
+    insert-traced-requires
+    returns
+    (λ c. search needs)
+    returns-2)

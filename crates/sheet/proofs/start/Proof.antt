@@ -1,0 +1,28 @@
+-- `start` meets its contract. Assumes nothing.
+use mathlib.Core.Path.{_≡_, refl, _∙_}
+use native.Mathlib.Omega.{arith}
+use borrow.Author.Needs.{needs}
+use Rattle.sheet.proofs.Starts.{start-long, start-full, start-made}
+use Rattle.sheet.proofs.start.Statement.{statement}
+use Rattle.sheet.proofs.start.Tie as tie
+
+returns : tie.Need-returns
+returns c = start-long _ _ (omega arith)
+
+returns-2 : tie.Need-returns-2
+returns-2 c = start-full _ _ (omega arith) (omega arith)
+
+returns-3 : tie.Need-returns-3
+returns-3 c = let a = c .before .before .before .before .before .before .before .args in let m = start-made (a .sheet .now) (a .heading) (omega arith) (omega arith) in (m .0, c .before .before .put-trailer .ensures ∙ m .1)
+
+pub start-spec : {M : Type 1} → statement M
+start-spec =
+    tie.close
+    (tie.spec
+    (λ c. search needs)
+    returns
+    (λ c. search needs)
+    returns-2
+    (λ c κs. search needs)
+    (λ c. search needs)
+    returns-3)

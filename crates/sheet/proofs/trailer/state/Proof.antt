@@ -1,0 +1,30 @@
+-- `state` meets its contract. Assumes nothing.
+use borrow.Author.Needs.{needs}
+use Rattle.sheet.specs.Checking.{stated}
+use Rattle.sheet.proofs.trailer.state.Statement.{statement}
+use Rattle.sheet.proofs.trailer.state.Tie as tie
+
+returns : tie.Need-returns
+unfolding stated
+returns c = rw (c .if1 .taken)
+
+returns-2 : tie.Need-returns-2
+unfolding stated
+returns-2 c = rw (c .before .if1 .left, c .if2 .taken)
+
+returns-3 : tie.Need-returns-3
+unfolding stated
+returns-3 c = rw (c .before .if1 .left, c .if2 .left)
+
+pub state-spec : {M : Type 1} → statement M
+state-spec =
+    tie.close
+    (tie.spec
+    (λ c. search needs)
+    (λ c. search needs)
+    returns
+    (λ c. search needs)
+    (λ c. search needs)
+    (λ c. search needs)
+    returns-2
+    returns-3)

@@ -1,0 +1,41 @@
+-- Document 01's number and values for each case of this crate's answers. Assumes nothing.
+use Prim.Native.Nat.{ℕ}
+use Rattle.octagon.specs.Outcome.{Outcome, accepted, refused}
+use Rattle.sheet.specs.declared.Record.{Record}
+use Rattle.sheet.specs.declared.Checked.{Checked}
+use Rattle.sheet.specs.declared.Checked.the-variants as checked
+use Rattle.sheet.specs.declared.Fetched.{Fetched}
+use Rattle.sheet.specs.declared.Fetched.the-variants as fetched
+use Rattle.sheet.specs.declared.Written.{Written}
+use Rattle.sheet.specs.declared.Written.the-variants as written
+
+abbrev pub count-of : Checked → Outcome ℕ
+count-of (checked.Count c) = accepted c
+count-of (checked.Refused k) = refused k
+
+abbrev pub record-of : Fetched → Outcome Record
+record-of (fetched.Record r) = accepted r
+record-of (fetched.Refused k) = refused k
+
+abbrev pub length-of : Written → Outcome ℕ
+length-of (written.Length n) = accepted n
+length-of (written.Refused k) = refused k
+
+-- the refusal numbers of this crate: the length; the trailer's marks; its distance; a plot number; no room; no such record
+abbrev pub bad-length : ℕ
+bad-length = 8
+
+abbrev pub bad-trailer : ℕ
+bad-trailer = 9
+
+abbrev pub bad-distance : ℕ
+bad-distance = 10
+
+abbrev pub bad-number : ℕ
+bad-number = 11
+
+abbrev pub no-room : ℕ
+no-room = 12
+
+abbrev pub no-record : ℕ
+no-record = 13

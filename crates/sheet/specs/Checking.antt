@@ -1,0 +1,67 @@
+-- What `check` and `fetch` answer: definitions that compute. proofs/Checked.antt takes them apart in the words of document 01.
+-- Assumes nothing.
+use mathlib.Core.Bool.{Bool, cond, not, _||_}
+use mathlib.Core.List.{List, [], _∷_}
+use Prim.Native.Nat.{ℕ, _+_, _-_, _*_, _≤_}
+use lib.ListN.{length, getD}
+use lib.Dec.{ltb, eqb}
+use Rattle.octagon.specs.Outcome.{Outcome, accepted, refused, then}
+use Rattle.outline.specs.Tracing.{traced}
+use Rattle.records.specs.Rows.{records, key}
+use Rattle.sheet.specs.declared.Record.{Record}
+use Rattle.sheet.specs.declared.trailer.Trailer.{Trailer}
+use Rattle.sheet.specs.Layout.{sheet-limit, record-length, trailer-length, letters, trailer-at, decoded}
+use Rattle.sheet.specs.Answers.{bad-length, bad-trailer, bad-distance, bad-number, no-record}
+
+-- the length is below the trailer's, above the limit or above the buffer's
+abbrev pub wrong-length : List ℕ → ℕ → Bool
+wrong-length s len = ltb len trailer-length || ltb sheet-limit len || ltb (length s) len
+
+-- record length, zero bytes or letters are wrong
+abbrev pub wrong-marks : Trailer → Bool
+wrong-marks z = not (eqb (z .length) record-length) || not (eqb (z .zeros) 0) || not (eqb (z .letters) letters)
+
+-- the distance is not that of the records, or exceeds the length less the trailer's
+abbrev pub wrong-distance : ℕ → Trailer → Bool
+wrong-distance len z = not (eqb (z .distance) (record-length * z .count)) || ltb (len - trailer-length) (z .distance)
+
+-- the count that a trailer states for a sheet of len bytes: 9, then 10
+unfoldable pub stated : ℕ → Trailer → Outcome ℕ
+stated len z = cond (wrong-marks z) (refused bad-trailer) (cond (wrong-distance len z) (refused bad-distance) (accepted (z .count)))
+
+-- the count that the sheet's trailer states: 8 first
+unfoldable pub framed : List ℕ → ℕ → Outcome ℕ
+framed s len = cond (wrong-length s len) (refused bad-length) (stated len (trailer-at s (len - trailer-length)))
+
+-- what is known of a sheet of len bytes with c records, where that is accepted
+pub record Framed (s : List ℕ) (len c : ℕ) : Type 0 where
+  pub within : len ≤ length s
+  pub short : len ≤ sheet-limit
+  pub long : record-length * c + trailer-length ≤ len
+
+-- where the first of c records stands, and the records
+abbrev pub first : ℕ → ℕ → ℕ
+first len c = len - trailer-length - record-length * c
+
+abbrev pub rows : List ℕ → ℕ → ℕ → List (List ℕ)
+rows s len c = records record-length s (first len c) c
+
+-- a record's plot number, where the record before it has the number `before` (0 for the first): 11 when it is 0 or not above
+-- that, then the outline's refusals
+unfoldable pub judged : ℕ → List ℕ → Outcome ℕ
+judged before b =
+    cond (ltb before (key b)) (then (traced (decoded b .outline)) (λ _. accepted (key b))) (refused bad-number)
+
+-- each record in order, and then the count c
+unfoldable pub surveyed : ℕ → ℕ → List (List ℕ) → Outcome ℕ
+surveyed c before [] = accepted c
+surveyed c before (b ∷ bs) = then (judged before b) (λ v. surveyed c v bs)
+
+-- what `check` answers
+unfoldable pub checked : List ℕ → ℕ → Outcome ℕ
+checked s len = then (framed s len) (λ c. surveyed c 0 (rows s len c))
+
+-- what `fetch` answers: 13 when k is not below the count
+unfoldable pub fetched : List ℕ → ℕ → ℕ → Outcome Record
+fetched s len k =
+    then (checked s len) (λ c. cond (ltb k c) (accepted (decoded (getD (rows s len c) k []))) (refused no-record))

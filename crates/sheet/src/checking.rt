@@ -1,0 +1,51 @@
+// The records of a sheet, one after the other.
+ghost use mathlib.Core.Path.{_≡_};
+ghost use Prim.Native.Nat.{_+_, _*_, _≤_};
+ghost use lib.ListN.{length};
+ghost use Rattle.records.specs.Parts.{part};
+ghost use Rattle.records.specs.Rows.{records};
+ghost use Rattle.sheet.specs.Answers.{«count-of»};
+ghost use Rattle.sheet.specs.Layout.{«record-length»};
+ghost use Rattle.sheet.specs.Checking.{judged, surveyed};
+use crate::BAD_NUMBER;
+use crate::Checked;
+use crate::RECORD;
+use crate::encoding::record_at;
+use octagon::Answer;
+
+// The plot number of the record at an index. Refuses one that is not above `before`, then the outline's refusals.
+fn judge(s: &[u8], at: usize, before: u32) -> Checked
+    requires { ⌜ at + «record-length» ≤ length (now s) ⌝ }
+    ensures { λ r. ⌜ «count-of» r ≡ judged before (part (now (s .entry)) at «record-length») ⌝ }
+{
+    let r = record_at(s, at);
+    let number = r.number;
+    if number <= before {
+        return Checked::Refused(BAD_NUMBER);
+    }
+    let o = r.outline;
+    match outline::to_octagon(o) {
+        Answer::Refused(k) => Checked::Refused(k),
+        Answer::Octagon(_) => Checked::Count(number),
+    }
+}
+
+// Checks `count` records in order, and answers the count.
+pub fn survey(s: &[u8], first: usize, count: u32) -> Checked
+    requires { ⌜ first + «record-length» * count ≤ length (now s) ⌝ }
+    ensures { λ r. ⌜ «count-of» r ≡ surveyed count 0 (records «record-length» (now (s .entry)) first count) ⌝ }
+{
+    let mut p = first;
+    let mut before = 0;
+    let mut left = count;
+    while 0 < left {
+        let answer = judge(s, p, before);
+        let Checked::Count(number) = answer else {
+            return answer;
+        };
+        before = number;
+        p += RECORD;
+        left -= 1;
+    }
+    Checked::Count(count)
+}

@@ -1,0 +1,118 @@
+// Sheets of plots in lent buffers: a heading, records by rising plot number, and a trailer.
+//
+// specs/Layout.antt has the bytes of a record and of a trailer, specs/Checking.antt what `check` and `fetch` answer,
+// specs/Writing.antt what `start` and `insert` answer and leave in the buffer.
+ghost use mathlib.Core.Path.{_≡_};
+ghost use Rattle.sheet.specs.Answers.{«count-of», «record-of», «length-of»};
+ghost use Rattle.sheet.specs.Checking.{checked, fetched};
+ghost use Rattle.sheet.specs.Writing.{started, «after-start», inserted, «after-insert»};
+use octagon::Answer;
+use outline::Outline;
+
+mod checking;
+mod encoding;
+mod inserting;
+mod numbers;
+mod rows;
+mod trailer;
+
+// A plot: its number and its outline.
+pub struct Record {
+    pub number: u32,
+    pub outline: Outline,
+}
+
+// How many records a sheet has, or the number of the refusal.
+pub enum Checked {
+    Count(u32),
+    Refused(u32),
+}
+
+// A record of a sheet, or the number of the refusal.
+pub enum Fetched {
+    Record(Record),
+    Refused(u32),
+}
+
+// The length of a sheet that was written, or the number of the refusal.
+pub enum Written {
+    Length(usize),
+    Refused(u32),
+}
+
+// The longest sheet, and the lengths of a trailer and of a record, in bytes.
+pub const LIMIT: usize = 65536;
+
+pub const TRAILER: usize = 16;
+
+pub const RECORD: usize = 24;
+
+// The refusal numbers of document 01 that this crate adds.
+pub const BAD_LENGTH: u32 = 8;
+
+pub const BAD_TRAILER: u32 = 9;
+
+pub const BAD_DISTANCE: u32 = 10;
+
+pub const BAD_NUMBER: u32 = 11;
+
+pub const NO_ROOM: u32 = 12;
+
+pub const NO_RECORD: u32 = 13;
+
+// How many records the sheet in the first `len` bytes has. Refuses a wrong length, wrong marks in the trailer, a wrong distance,
+// and then for each record in order a wrong number and the refusals of its outline.
+pub fn check(sheet: &[u8], len: usize) -> Checked
+    ensures { λ r. ⌜ «count-of» r ≡ checked (now (sheet .entry)) len ⌝ }
+{
+    let stated = trailer::frame(sheet, len);
+    let Checked::Count(c) = stated else {
+        return stated;
+    };
+    checking::survey(sheet, len - TRAILER - RECORD * (c as usize), c)
+}
+
+// Record k, counted from 0. The refusals of the check, and then k not below the count.
+pub fn fetch(sheet: &[u8], len: usize, k: u32) -> Fetched
+    ensures { λ r. ⌜ «record-of» r ≡ fetched (now (sheet .entry)) len k ⌝ }
+{
+    match check(sheet, len) {
+        Checked::Refused(e) => Fetched::Refused(e),
+        Checked::Count(c) => {
+            if k < c {
+                let first = len - TRAILER - RECORD * (c as usize);
+                Fetched::Record(encoding::record_at(sheet, first + RECORD * (k as usize)))
+            } else {
+                Fetched::Refused(NO_RECORD)
+            }
+        }
+    }
+}
+
+// Starts a sheet of no records after `heading` bytes, and answers its length. Refuses a sheet that is too long, then one that
+// the buffer has no room for.
+pub fn start(sheet: &mut [u8], heading: usize) -> Written
+    ensures { λ r. ⌜ («length-of» r ≡ started (now (sheet .entry)) heading) × (now (sheet .exit) ≡ «after-start» (now (sheet .entry)) heading) ⌝ }
+{
+    if LIMIT - TRAILER < heading {
+        return Written::Refused(BAD_LENGTH);
+    }
+    let next = heading + TRAILER;
+    if sheet.len() < next {
+        return Written::Refused(NO_ROOM);
+    }
+    trailer::put_trailer(sheet, heading, 0);
+    Written::Length(next)
+}
+
+// Inserts a record by its number, and answers the new length. The refusals of its outline and of the check, then a number that
+// is 0 or that a record has, then a sheet that has no room.
+pub fn insert(sheet: &mut [u8], len: usize, r: Record) -> Written
+    ensures { λ a. ⌜ («length-of» a ≡ inserted (now (sheet .entry)) len r) × (now (sheet .exit) ≡ «after-insert» (now (sheet .entry)) len r) ⌝ }
+{
+    let o = r.outline;
+    match outline::to_octagon(o) {
+        Answer::Refused(e) => Written::Refused(e),
+        Answer::Octagon(_) => inserting::insert_traced(sheet, len, r),
+    }
+}

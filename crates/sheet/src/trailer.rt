@@ -1,0 +1,86 @@
+// The trailer that ends a sheet.
+ghost use mathlib.Core.Path.{_≡_};
+ghost use Prim.Native.Nat.{_+_, _*_, _≤_};
+ghost use lib.ListN.{length};
+ghost use Rattle.records.specs.Parts.{splice};
+ghost use Rattle.sheet.specs.Answers.{«count-of»};
+ghost use Rattle.sheet.specs.Layout.{«record-length», «trailer-length», trailer, «trailer-at»};
+ghost use Rattle.sheet.specs.Checking.{stated, framed};
+use crate::BAD_DISTANCE;
+use crate::BAD_LENGTH;
+use crate::BAD_TRAILER;
+use crate::Checked;
+use crate::LIMIT;
+use crate::RECORD;
+use crate::TRAILER;
+use crate::numbers::pack;
+use crate::numbers::unpack;
+
+// The numbers in a trailer.
+pub struct Trailer {
+    pub distance: u32,
+    pub count: u32,
+    pub length: u32,
+    pub zeros: u32,
+    pub letters: u32,
+}
+
+// Their widths in bytes.
+const FIELDS: usize = 5;
+
+const WIDTHS: [usize; FIELDS] = [4, 4, 2, 2, 4];
+
+// The letters GRND, as a number.
+const LETTERS: u32 = 1145983559;
+
+// The trailer at an index.
+fn read_trailer(s: &[u8], at: usize) -> Trailer
+    requires { ⌜ at + «trailer-length» ≤ length (now s) ⌝ }
+    ensures { λ r. ⌜ r ≡ «trailer-at» (now (s .entry)) at ⌝ }
+{
+    let mut v = [0u32; FIELDS];
+    unpack(s, at, &WIDTHS, &mut v);
+    Trailer {
+        distance: v[0],
+        count: v[1],
+        length: v[2],
+        zeros: v[3],
+        letters: v[4],
+    }
+}
+
+// Writes the trailer of `count` records at an index.
+pub fn put_trailer(s: &mut [u8], at: usize, count: u32)
+    requires { ⌜ (at + «trailer-length» ≤ length (now s)) × («record-length» * count ≤ 4294967295) ⌝ }
+    ensures { λ _. ⌜ now (s .exit) ≡ splice (now (s .entry)) at (trailer count) ⌝ }
+{
+    let v = [(RECORD as u32) * count, count, RECORD as u32, 0, LETTERS];
+    pack(s, at, &WIDTHS, &v);
+}
+
+// The count that a trailer states for a sheet of `len` bytes. Refuses wrong marks, then a wrong distance.
+fn state(z: Trailer, len: usize) -> Checked
+    requires { ⌜ «trailer-length» ≤ len ⌝ }
+    ensures { λ r. ⌜ «count-of» r ≡ stated len z ⌝ }
+{
+    let distance = z.distance as usize;
+    let count = z.count;
+    let length = z.length as usize;
+    if (length != RECORD) | (z.zeros != 0) | (z.letters != LETTERS) {
+        return Checked::Refused(BAD_TRAILER);
+    }
+    if (distance != RECORD * (count as usize)) | (len - TRAILER < distance) {
+        return Checked::Refused(BAD_DISTANCE);
+    }
+    Checked::Count(count)
+}
+
+// The count that the trailer of a sheet states. Refuses a wrong length first.
+pub fn frame(sheet: &[u8], len: usize) -> Checked
+    ensures { λ r. ⌜ «count-of» r ≡ framed (now (sheet .entry)) len ⌝ }
+{
+    if (len < TRAILER) | (LIMIT < len) | (sheet.len() < len) {
+        return Checked::Refused(BAD_LENGTH);
+    }
+    state(read_trailer(sheet, len - TRAILER), len)
+}
