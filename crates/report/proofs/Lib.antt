@@ -1,0 +1,3 @@
+-- Theorems on the text of a listing.
+pub mod Decimals
+pub mod Writing
