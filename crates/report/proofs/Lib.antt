@@ -1,3 +1,5 @@
 -- Theorems on the text of a listing.
 pub mod Decimals
+pub mod Signs
 pub mod Writing
+pub mod Numbers

@@ -45,3 +45,31 @@ put-next {s} {t} {at} w i h l p =
 
 pub put-all : {s t : List ℕ} {at : ℕ} (w : List ℕ) (i : ℕ) → length w ≤ i → Put s at (take i w) t (at + i) → Put s at w t (at + i)
 put-all w i h p = rw (take-all i w h) at p
+
+-- ---- what is left to put
+
+-- the words v are still to be put into t, from index m on, and that makes of s what w does from index at on
+pub record Left (s : List ℕ) (at : ℕ) (w t : List ℕ) (m : ℕ) (v : List ℕ) : Type 0 where
+  pub fits : m + length v ≤ length t
+  pub size : length t ≡ length s
+  pub rest : {u : List ℕ} {next : ℕ} → Put t m v u next → Put s at w u next
+
+pub left-all : (s : List ℕ) (at : ℕ) (w : List ℕ) → at + length w ≤ length s → Left s at w s at w
+left-all s at w h = record { fits = h; size = refl; rest = λ p. p }
+
+-- all of it, in parts
+pub left-parts : (s : List ℕ) (at : ℕ) (w v : List ℕ) → w ≡ v → at + length w ≤ length s → Left s at w s at v
+left-parts s at w v e h = record { fits = rw e at h; size = refl; rest = λ p. rw e p }
+
+pub left-more : {s w t u : List ℕ} {at m next : ℕ} (x v : List ℕ) → Left s at w t m (x ++ v) → Put t m x u next → Left s at w u next v
+left-more x v l p =
+    let n = length-append x v in
+    record {
+      fits = omega (arith, l .fits, put-length p, p .past);
+      size = put-length p ∙ l .size;
+      rest = λ q. l .rest (put-then p q);
+    }
+
+-- the next word fits
+pub left-room : {s w t : List ℕ} {at m : ℕ} (x v : List ℕ) → Left s at w t m (x ++ v) → m + length x ≤ length t
+left-room x v l = omega (arith, l .fits, length-append x v)

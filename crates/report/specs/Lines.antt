@@ -2,6 +2,7 @@
 use mathlib.Core.Path.{_≡_}
 use mathlib.Core.List.{List, [], _∷_, _++_}
 use Prim.Native.Nat.{ℕ, _+_, _≤_}
+use lib.IntN.{ℤ}
 use lib.ListN.{length}
 use Rattle.records.specs.Parts.{splice}
 use Rattle.sheet.specs.declared.Record.{Record}
@@ -27,6 +28,10 @@ line w ws = w ++ spaced ws
 
 unfoldable pub heading-line : List ℕ
 heading-line = ascii "plot i j n0 n1 n2 n3 n4 n5 n6 n7 cells\n"
+
+-- how a row begins: the plot number and the start
+unfoldable pub row-start : ℕ → ℤ → ℤ → List ℕ
+row-start v i j = decimal v ++ ((space ∷ signed i) ++ (space ∷ signed j))
 
 -- the row of a plot with n cells
 unfoldable pub row-line : Record → ℕ → List ℕ

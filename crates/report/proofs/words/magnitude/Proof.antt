@@ -1,33 +1,32 @@
-use borrow.Author.Needs.{needs}
+-- `magnitude` meets its contract. Assumes nothing.
+use mathlib.Core.Path.{_≡_, ap, _∙_}
+use native.Mathlib.Omega.{arith}
+use lib.IntN.{ℤ, pos, natAbs, _-ℤ_}
+use mir.Syntax.{w32, w64}
+use mir.Val.{SFits, toZ, ofZ}
+use mir.Facts.{toZ-ofZ}
+use Rattle.integers.proofs.Range.{widened, kept}
+use Rattle.report.proofs.Signs.{magnitude-most, negated, unsigned}
 use Rattle.report.proofs.words.magnitude.Statement.{statement}
 use Rattle.report.proofs.words.magnitude.Tie as tie
-use Rattle.report.proofs.words.magnitude.Reads as reads
-use Rattle.report.proofs.words.magnitude.Lts as lts
 
--- src/words.rt:54:22
-cast-result : tie.Need-cast-result
-cast-result c = ?
+-- the difference from 0, and as it is read back
+less : (c : tie.Then1) → let z = c .before .args .z in pos 0 -ℤ toZ w64 (ofZ w64 (toZ w32 (ofZ w32 z))) ≡ pos (natAbs z)
+less c = negated (c .before .args .z) (c .before .fits .z) (c .if1 .taken)
 
--- src/words.rt:54:17
-sub-result : tie.Need-sub-result
-sub-result c = ?
+again : (c : tie.Then1) → let z = c .before .args .z in toZ w64 (ofZ w64 (pos 0 -ℤ toZ w64 (ofZ w64 (toZ w32 (ofZ w32 z))))) ≡ pos (natAbs z)
+again c = rw (less c) (kept w64 (omega (arith, magnitude-most (c .before .args .z) (c .before .fits .z))))
 
--- src/words.rt:54:16
-cast-result-2 : tie.Need-cast-result-2
-cast-result-2 c = ?
-
--- src/words.rt:54:9
-returns : tie.Need-returns
-returns c = ?
-
--- src/words.rt:56:5
-cast-result-3 : tie.Need-cast-result-3
-cast-result-3 c = ?
-
--- src/words.rt:50:1
-returns-2 : tie.Need-returns-2
-returns-2 c = search needs
+same : (c : tie.Else1) → let z = c .before .args .z in toZ w32 (ofZ w32 z) ≡ pos (natAbs z)
+same c = unsigned (c .before .args .z) (c .before .fits .z) (c .if1 .left)
 
 pub magnitude-spec : {M : Type 1} → statement M
 magnitude-spec =
-    tie.close (tie.spec cast-result sub-result cast-result-2 returns cast-result-3 returns-2)
+    tie.close
+    (tie.spec
+    (λ c. widened (c .before .fits .z))
+    (λ c. rw (less c) (record { sfits = omega (arith, magnitude-most (c .before .args .z) (c .before .fits .z)) }))
+    (λ c. rw (again c) (tt, record { fits = omega (arith, magnitude-most (c .before .args .z) (c .before .fits .z)) }))
+    (λ c. ap natAbs (again c))
+    (λ c. rw (same c) (tt, record { fits = omega (arith, magnitude-most (c .before .args .z) (c .before .fits .z)) }))
+    (λ c. ap natAbs (same c)))

@@ -1,30 +1,21 @@
+-- `put_number` meets its contract. Assumes nothing.
+use native.Mathlib.Omega.{arith}
+use lib.ListN.{length, length-set}
 use borrow.Author.Needs.{needs}
+use Rattle.report.specs.Decimal.{decimal}
+use Rattle.report.specs.Lines.{space}
+use Rattle.report.proofs.Writing.{put-length}
+use Rattle.report.proofs.Numbers.{put-cons}
 use Rattle.report.proofs.words.put_number.Statement.{statement}
 use Rattle.report.proofs.words.put_number.Tie as tie
-use Rattle.report.proofs.words.put_number.Reads as reads
-use Rattle.report.proofs.words.put_number.Lts as lts
-use Rattle.report.proofs.words.put_decimal.Reads as put-decimal-reads
 
--- src/words.rt:94:5
-slice-write-text : tie.Need-slice-write-text
-slice-write-text c = search needs
-
--- src/words.rt:95:23
-add-put-decimal : tie.Need-add-put-decimal
-add-put-decimal c = search needs
-
--- src/words.rt:95:5
 put-decimal-requires : tie.Need-put-decimal-requires
-put-decimal-requires c κs = ?
+put-decimal-requires c κs = simp length-set (omega arith)
 
--- src/words.rt:90:1
-same-length : tie.Need-same-length
-same-length c = ?
-
--- src/words.rt:90:1
 returns : tie.Need-returns
-returns c = ?
+returns c =
+    let e = c .before .before .before .before .before in
+    put-cons space (decimal (e .args .n)) (omega (arith, e .pre)) (c .before .before .put-decimal .ensures)
 
 pub put-number-spec : {M : Type 1} → statement M
-put-number-spec =
-    tie.close (tie.spec slice-write-text add-put-decimal put-decimal-requires same-length returns)
+put-number-spec = tie.close (tie.spec (λ c. search needs) (λ c. search needs) put-decimal-requires (λ c. put-length (returns c)) returns)

@@ -1,62 +1,41 @@
+-- `put_numbers` meets its contract. The invariant: the numbers from the k-th on and the newline are left. Assumes nothing.
+use Prim.Native.Nat.{ℕ, _+_, _-_, _≤_}
+use native.Mathlib.Omega.{arith}
+use lib.ListN.{length}
+use borrow.Author.Needs.{needs}
+use Rattle.report.proofs.Writing.{put-length, Left, left-all}
+use Rattle.report.proofs.Numbers.{words, number-room, number-more, newline-room, numbers-end}
 use Rattle.report.proofs.words.put_numbers.Statement.{statement}
 use Rattle.report.proofs.words.put_numbers.Tie as tie
-use Rattle.report.proofs.words.put_numbers.Reads as reads
-use Rattle.report.proofs.words.put_numbers.Lts as lts
-use Rattle.report.proofs.words.put_number.Reads as put-number-reads
 
 abbrev Inv-loop : tie.InvT-loop
-Inv-loop text₀ at values next₀ k₀ text next k = ?
+Inv-loop text₀ at values next₀ k₀ text next k = (k ≤ length values) × Left text₀ at (words values 0) text next (words values k)
 
 abbrev μ-loop : tie.MeasureT-loop
-μ-loop text₀ at values next₀ k₀ text next k = ?
+μ-loop text₀ at values next₀ k₀ text next k = length values - k
 
--- src/words.rt:105:5
 loop-holds : tie.Need-loop-holds Inv-loop μ-loop
-loop-holds c = ?
+loop-holds c = let a = c .before .before .args in (omega arith, left-all (a .text .now) (a .at) (words (a .values .now) 0) (c .before .before .pre))
 
--- src/words.rt:106:39
-mul-put-number : tie.Need-mul-put-number Inv-loop μ-loop
-mul-put-number c = ?
-
--- src/words.rt:106:39
-shared-slice-read-put-number : tie.Need-shared-slice-read-put-number Inv-loop μ-loop
-shared-slice-read-put-number c = ?
-
--- src/words.rt:106:39
 cast-put-number : tie.Need-cast-put-number Inv-loop μ-loop
-cast-put-number c = ?
+cast-put-number c = omega (arith, c .shared-slice-known2 .given (c .before .before .before .loop .k))
 
--- src/words.rt:106:9
 put-number-requires : tie.Need-put-number-requires Inv-loop μ-loop
-put-number-requires c κs = ?
+put-number-requires c κs =
+    let l = c .before .before .before .loop in
+    number-room (c .before .before .before .before .before .before .args .values .now) (l .k) (c .before .before .loop-test .taken) (l .inv .1)
 
--- src/words.rt:107:9
-add-k : tie.Need-add-k Inv-loop μ-loop
-add-k c = ?
-
--- src/words.rt:105:5
-loop-less : tie.Need-loop-less Inv-loop μ-loop
-loop-less c = ?
-
--- src/words.rt:105:5
 loop-again : tie.Need-loop-again Inv-loop μ-loop
-loop-again c = ?
+loop-again c =
+    let l = c .before .before .before .before .before .before .loop in
+    let h = c .before .before .before .before .before .loop-test .taken in
+    (omega (arith, h), number-more (c .before .before .before .before .before .before .before .before .before .args .values .now) (l .k) h (l .inv .1) (c .before .before .put-number .ensures))
 
--- src/words.rt:109:5
 slice-write-text : tie.Need-slice-write-text Inv-loop μ-loop
-slice-write-text c = ?
+slice-write-text c = newline-room (c .before .before .before .before .args .values .now) (c .before .loop .k) (c .loop-test .left) (c .before .loop .inv .1)
 
--- src/words.rt:110:5
-add-result : tie.Need-add-result Inv-loop μ-loop
-add-result c = ?
-
--- src/words.rt:99:1
-same-length : tie.Need-same-length Inv-loop μ-loop
-same-length c = ?
-
--- src/words.rt:99:1
 returns : tie.Need-returns Inv-loop μ-loop
-returns c = ?
+returns c = numbers-end (c .before .before .before .before .args .values .now) (c .before .loop .k) (c .loop-test .left) (c .before .loop .inv .1)
 
 pub put-numbers-spec : {M : Type 1} → statement M
 put-numbers-spec =
@@ -65,14 +44,14 @@ put-numbers-spec =
     Inv-loop
     μ-loop
     loop-holds
-    mul-put-number
-    shared-slice-read-put-number
+    (λ c. search needs)
+    (λ c. search needs)
     cast-put-number
     put-number-requires
-    add-k
-    loop-less
+    (λ c. search needs)
+    (λ c. search needs)
     loop-again
     slice-write-text
-    add-result
-    same-length
+    (λ c. omega (arith, slice-write-text c))
+    (λ c. put-length (returns c))
     returns)
