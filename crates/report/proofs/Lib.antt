@@ -3,3 +3,4 @@ pub mod Decimals
 pub mod Signs
 pub mod Writing
 pub mod Numbers
+pub mod Plots
