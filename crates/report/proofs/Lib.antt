@@ -4,3 +4,5 @@ pub mod Signs
 pub mod Writing
 pub mod Numbers
 pub mod Plots
+pub mod Lengths
+pub mod Listings
