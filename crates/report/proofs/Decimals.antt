@@ -6,11 +6,11 @@ use Prim.Native.Nat.{ℕ, zero, suc, _+_, _-_, _*_, _/_, _%_, _^_, _≤_, _<_}
 use native.Mathlib.Omega.{arith}
 use native.Mathlib.Nat.{pow-suc, pow-zero, pow-succ', mul-assoc, mul-le-mul-right, lt-of-lt-of-le}
 use lib.Dec.{ltb}
-use lib.IntN.{ℤ, pos, negsuc}
+use lib.IntN.{ℤ, pos, negsuc, negℤ}
 use lib.ListN.{length, getD, length-append, List·getD-append}
-use borrow.Author.Tests.{lt-ltb, le-ltb, ltb-true, ltb-false}
+use borrow.Author.Tests.{lt-ltb, le-ltb, ltb-true, ltb-false, ne-eqb}
 use Rattle.integers.proofs.Tests.{cases}
-use Rattle.report.specs.Decimal.{digit, digits, decimal, read, value, minus, signed}
+use Rattle.report.specs.Decimal.{digit, digits, decimal, read, value, minus, sign, signed, integer}
 
 -- ---- one digit, and one digit more
 
@@ -117,3 +117,16 @@ read-below v (more {b = b} {s = s} l m r) =
 pub decimal-fewest : (s : List ℕ) → Digits s → 0 < length s → length (decimal (value s)) ≤ length s
 unfolding value
 decimal-fewest s d h = length-decimal (length s) (read 0 s) h (omega (arith, read-below 0 d))
+
+-- ---- signed numbers
+
+integer-unsigned : {s : List ℕ} → Digits s → 1 ≤ length s → integer s ≡ pos (value s)
+unfolding integer
+integer-unsigned none h = absurd (omega arith)
+integer-unsigned (more {b = b} {s = s} l m d) h = rw (ne-eqb b minus (λ e. omega (arith, e)), integer)
+
+-- the number again
+pub integer-signed : (z : ℤ) → integer (signed z) ≡ z
+unfolding signed integer
+integer-signed (pos n) = integer-unsigned (decimal-digits n) (decimal-some n) ∙ ap pos (value-decimal n)
+integer-signed (negsuc n) = ap (λ (m : ℕ). negℤ (pos m)) (value-decimal (suc n))

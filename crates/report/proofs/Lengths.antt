@@ -120,8 +120,12 @@ rows-length : (s : List ℕ) (at n : ℕ) → Bytes s → length (rows-of (map d
 rows-length s at zero b = omega arith
 rows-length s at (suc n) b =
     let r = decoded (part s at record-length) in
-    omega (arith, length-append (row r) (rows-of (map decoded (records record-length s (at + record-length) n))),
-    row-length r (small s at b), rows-length s (at + record-length) n b)
+    omega (
+      arith,
+      length-append (row r) (rows-of (map decoded (records record-length s (at + record-length) n))),
+      row-length r (small s at b),
+      rows-length s (at + record-length) n b,
+    )
 
 -- ---- the other lines, and the listing
 
@@ -154,8 +158,13 @@ full-length s len c b e =
     let k = checked-known s len c e in
     let rs = map decoded (rows s len c) in
     let n = length-plots s len c in
-    omega (arith, length-append heading-line (rows-of rs ++ last-line (length rs) (total rs)), length-append (rows-of rs) (last-line (length rs) (total rs)),
-    rows-length s (first len c) c b, last-length (length rs) (total rs) (omega arith) (omega (arith, total-most rs)))
+    omega (
+      arith,
+      length-append heading-line (rows-of rs ++ last-line (length rs) (total rs)),
+      length-append (rows-of rs) (last-line (length rs) (total rs)),
+      rows-length s (first len c) c b,
+      last-length (length rs) (total rs) (omega arith) (omega (arith, total-most rs)),
+    )
 
 pub listing-fits : (s : List ℕ) (len : ℕ) → Bytes s → length (listing s len) ≤ text-limit
 unfolding listing

@@ -6,3 +6,4 @@ pub mod Numbers
 pub mod Plots
 pub mod Lengths
 pub mod Listings
+pub mod Examples

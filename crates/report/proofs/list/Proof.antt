@@ -42,14 +42,16 @@ returns c =
     let d = c .before .before .before in
     let a = d .before .before .before .before .args in
     let p = c .put-refused .ensures in
-    rw (listing-refused (a .sheet .now) (a .len) _ (refuses d)) (omega (arith, p .past), p .text)
+    let e = listing-refused (a .sheet .now) (a .len) _ (refuses d) in
+    (omega (arith, p .past, ap length e, fits (d .before .before .before)), rw e (omega (arith, p .past), p .text))
 
 returns-2 : tie.Need-returns-2
 returns-2 c =
     let d = c .before .before .before in
     let a = d .before .before .before .before .args in
     let p = c .put-all .ensures in
-    rw (listing-accepted (a .sheet .now) (a .len) _ (accepts d)) (omega (arith, p .past), p .text)
+    let e = listing-accepted (a .sheet .now) (a .len) _ (accepts d) in
+    (omega (arith, p .past, ap length e, fits (d .before .before .before)), rw e (omega (arith, p .past), p .text))
 
 pub list-spec : {M : Type 1} → statement M
 list-spec =
