@@ -3,7 +3,7 @@ use mathlib.Core.Path.{_≡_}
 use mathlib.Core.List.{List, [], _∷_, _++_}
 use Prim.Native.Nat.{ℕ, _+_, _≤_}
 use lib.IntN.{ℤ}
-use lib.ListN.{length}
+use lib.ListN.{length, take}
 use Rattle.records.specs.Parts.{splice}
 use Rattle.sheet.specs.declared.Record.{Record}
 use Rattle.report.specs.Text.{ascii}
@@ -57,3 +57,7 @@ pub record Put (s : List ℕ) (at : ℕ) (w t : List ℕ) (next : ℕ) : Type 0 
   pub fits : at + length w ≤ length s
   pub text : t ≡ splice s at w
   pub past : next ≡ at + length w
+
+-- n counts bytes at the start of t. The second part follows from the first; with both, a caller can lend those bytes with no proof.
+abbrev pub Counts : ℕ → List ℕ → Type 0
+Counts n t = (n ≤ length t) × (n ≡ length (take n t))
