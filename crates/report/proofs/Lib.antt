@@ -1,0 +1,9 @@
+-- Theorems on the text of a listing.
+pub mod Decimals
+pub mod Signs
+pub mod Writing
+pub mod Numbers
+pub mod Plots
+pub mod Lengths
+pub mod Listings
+pub mod Examples

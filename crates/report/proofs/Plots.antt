@@ -1,0 +1,83 @@
+-- The plots of a checked sheet: the fetched records, their cells, and their rows one after the other. Assumes nothing.
+use mathlib.Core.Path.{_≡_, refl, sym, ap, _∙_}
+use mathlib.Core.List.{List, [], _∷_, _++_, map}
+use Prim.Native.Nat.{ℕ, suc, _+_, _*_, _^_, _≤_, _<_}
+use native.Mathlib.Omega.{arith}
+use native.Mathlib.Numerals.{add-one}
+use lib.ListN.{length, getD, drop, drop-of-length-le, length-map, List·getD-map, length-append}
+use lib.Seq.{drop-cons}
+use Rattle.octagon.specs.declared.Octagon.{Octagon}
+use Rattle.octagon.specs.Outcome.{Outcome, accepted, refused, then}
+use Rattle.cell_count.specs.Area.{cell-count}
+use Rattle.cell_count.proofs.Counted.{count-accepted, area-fits}
+use Rattle.outline.specs.declared.Outline.{Outline}
+use Rattle.outline.specs.Tracing.{traced}
+use Rattle.records.proofs.Rows.{length-records}
+use Rattle.sheet.specs.declared.Record.{Record}
+use Rattle.sheet.specs.Layout.{record-length, decoded}
+use Rattle.sheet.specs.Checking.{first, rows, checked, fetched}
+use Rattle.sheet.proofs.Checks.{fetched-row}
+use Rattle.report.specs.Lines.{row-line, Put}
+use Rattle.report.specs.Listing.{count-of, cells, plots, row, rows-of, total}
+use Rattle.report.proofs.Writing.{Left, left-more, left-room}
+
+-- ---- the records
+
+-- plot k, where there is one
+abbrev pub plot : List Record → ℕ → Record
+plot rs k = getD rs k (decoded [])
+
+pub length-plots : (s : List ℕ) (len c : ℕ) → length (plots s len c) ≡ c
+unfolding plots
+length-plots s len c = length-map (rows s len c) decoded ∙ length-records record-length s (first len c) c
+
+pub fetched-plot : (s : List ℕ) (len c k : ℕ) → checked s len ≡ accepted c → k < c → fetched s len k ≡ accepted (plot (plots s len c) k)
+unfolding plots
+fetched-plot s len c k e h = fetched-row s len c k e h ∙ ap accepted (sym (List·getD-map decoded (rows s len c) k []))
+
+-- ---- the cells
+
+count-most : (o : Octagon) → count-of (cell-count o) < 2 ^ 32
+count-most o = go (cell-count o) refl
+  where
+    go : (t : Outcome ℕ) → cell-count o ≡ t → count-of t < 2 ^ 32
+    go (accepted n) e = let p = count-accepted o n e in rw (p .2) at (area-fits o (p .0) (p .1))
+    go (refused k) e = omega arith
+
+pub cells-most : (o : Outline) → cells o < 2 ^ 32
+unfolding cells
+cells-most o = go (traced o)
+  where
+    go : (t : Outcome Octagon) → count-of (then t cell-count) < 2 ^ 32
+    go (accepted a) = count-most a
+    go (refused k) = omega arith
+
+pub total-most : (rs : List Record) → total rs ≤ length rs * 4294967295
+total-most [] = omega arith
+total-most (r ∷ rs) = omega (arith, cells-most (r .outline), total-most rs)
+
+-- ---- the rows from the k-th on
+
+abbrev pub rest : List Record → ℕ → List ℕ
+rest rs k = rows-of (drop k rs)
+
+module _ (rs : List Record) (k : ℕ) (h : k < length rs) (r : Record) (e : r ≡ plot rs k) (n : ℕ) (f : n ≡ cells (r .outline)) where
+  rest-more : rest rs k ≡ row-line r n ++ rest rs (k + 1)
+  unfolding row
+  rest-more = rw (drop-cons rs k (decoded []) h, add-one k, f, e)
+
+  pub row-room : {s w t : List ℕ} {at m : ℕ} → Left s at w t m (rest rs k) → m + length (row-line r n) ≤ length t
+  row-room l = left-room (row-line r n) (rest rs (k + 1)) (rw rest-more at l)
+
+  pub row-more : {s w t u : List ℕ} {at m next : ℕ} → Left s at w t m (rest rs k) → Put t m (row-line r n) u next → Left s at w u next (rest rs (k + 1))
+  row-more l p = left-more (row-line r n) (rest rs (k + 1)) (rw rest-more at l) p
+
+  pub total-more : total (drop k rs) ≡ n + total (drop (k + 1) rs)
+  total-more = rw (drop-cons rs k (decoded []) h, add-one k, f, e)
+
+-- none is left
+pub rest-end : (rs : List Record) (k : ℕ) → length rs ≤ k → rest rs k ≡ []
+rest-end rs k h = rw (drop-of-length-le rs h)
+
+pub total-end : (rs : List Record) (k : ℕ) → length rs ≤ k → total (drop k rs) ≡ 0
+total-end rs k h = rw (drop-of-length-le rs h)

@@ -1,0 +1,59 @@
+-- The listing of a sheet, as the program of document 01 writes it: a definition that computes. proofs/Listings.antt says what it has.
+-- Assumes nothing.
+use mathlib.Core.List.{List, [], _∷_, _++_, map}
+use Prim.Native.Nat.{ℕ, _+_, _-_, _*_, _/_}
+use lib.ListN.{length}
+use Rattle.octagon.specs.Outcome.{Outcome, accepted, refused, then}
+use Rattle.cell_count.specs.Area.{cell-count}
+use Rattle.outline.specs.declared.Outline.{Outline}
+use Rattle.outline.specs.Tracing.{traced}
+use Rattle.records.specs.Rows.{joined}
+use Rattle.sheet.specs.declared.Record.{Record}
+use Rattle.sheet.specs.Layout.{sheet-limit, record-length, trailer-length, decoded}
+use Rattle.sheet.specs.Checking.{rows, checked}
+use Rattle.report.specs.Lines.{heading-line, row-line, last-line, refused-line}
+
+-- a count, and 0 for a refusal
+abbrev pub count-of : Outcome ℕ → ℕ
+count-of (accepted n) = n
+count-of (refused k) = 0
+
+-- the number of cells inside an outline. No outline of a checked sheet is refused.
+unfoldable pub cells : Outline → ℕ
+cells o = count-of (then (traced o) cell-count)
+
+-- the plots of a checked sheet with c records
+unfoldable pub plots : List ℕ → ℕ → ℕ → List Record
+plots s len c = map decoded (rows s len c)
+
+-- the row of a plot, and the rows of plots
+unfoldable pub row : Record → List ℕ
+row r = row-line r (cells (r .outline))
+
+abbrev pub rows-of : List Record → List ℕ
+rows-of rs = joined (map row rs)
+
+-- the sum of the cells of plots: ground in two plots counts twice
+abbrev pub total : List Record → ℕ
+total [] = 0
+total (r ∷ rs) = cells (r .outline) + total rs
+
+-- the heading, a row for each plot, and the last line
+unfoldable pub full : List Record → List ℕ
+full rs = heading-line ++ (rows-of rs ++ last-line (length rs) (total rs))
+
+-- what is written for the answer of a check
+abbrev pub shown : List ℕ → ℕ → Outcome ℕ → List ℕ
+shown s len (accepted c) = full (plots s len c)
+shown s len (refused k) = refused-line k
+
+-- the listing of the sheet in the first len bytes of s
+unfoldable pub listing : List ℕ → ℕ → List ℕ
+listing s len = shown s len (checked s len)
+
+-- no line is longer than twelve words of twenty bytes, each with a byte after it, and so no listing is longer than this
+abbrev pub line-limit : ℕ
+line-limit = 12 * 21
+
+abbrev pub text-limit : ℕ
+text-limit = line-limit * ((sheet-limit - trailer-length) / record-length + 2)
