@@ -23,7 +23,6 @@ fn change(sheet: &mut [u8], len: usize, back: usize, byte: u8) {
 
 // Document 01's sheet with one byte changed.
 fn spoilt(back: usize, byte: u8) {
-    let _unused: u8 = 1;
     let mut sheet = [0u8; 64];
     let len = example(&mut sheet, 0);
     change(&mut sheet, len, back, byte);
