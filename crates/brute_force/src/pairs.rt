@@ -6,14 +6,18 @@ use crate::sets;
 use crate::splits;
 use crate::tally;
 use cell_count::Count;
-use morphology::NOTHING_LEFT;
-use morphology::OPPOSED_ROWS;
 use octagon::Answer;
-use octagon::NO_CELL;
 use octagon::Octagon;
 
 // A number that no call hands back: what is expected of a set that cannot be.
-pub const IMPOSSIBLE: u32 = 0;
+pub const IMPOSSIBLE: u32 = 99;
+
+// Document 01's refusal numbers.
+pub const NO_CELL: u32 = 1;
+
+pub const OPPOSED_ROWS: u32 = 4;
+
+pub const NOTHING_LEFT: u32 = 5;
 
 // The octagon whose cells are a set. Refused as `empty` says where there is no cell, and as `other` says where no
 // octagon has just these cells, which its tightest bounds show.

@@ -1,0 +1,75 @@
+/* What document 01 says of each call, worked out without the library's formulas: by sets of cells on a window of the grid
+ * (cells.c), by searching the rows and columns of any eight bounds (search.c), and by bytes (sheets.c). */
+#ifndef ORACLE_H
+#define ORACLE_H
+#include <stddef.h>
+#include <stdint.h>
+
+enum { LIMIT = 16000, WRONG_LENGTH = 255 };
+
+/* What a call answers: a number, and where it is 0 the normalised bounds. */
+typedef struct {
+    uint32_t number;
+    int64_t c[8];
+} answer;
+
+/* A plot: its number, start and sides. */
+typedef struct {
+    uint32_t number;
+    int32_t start[2];
+    uint32_t sides[8];
+} plot;
+
+/* How far the cell (x, y) reaches along bound k. */
+int64_t reach(int k, int64_t x, int64_t y);
+
+/* ---- by sets of cells */
+
+enum { WINDOW = 64, OPERAND = 24 };
+
+/* Bit i of row j is the cell (x0 + i, y0 + j). */
+typedef struct {
+    int64_t x0, y0;
+    uint64_t row[WINDOW];
+} cells;
+
+/* The cells within eight bounds, where the bounds keep them to a square of OPERAND cells; else 0. */
+int cells_of(const int32_t c[8], cells *out);
+/* The same cells from the corner of their window, so that another step has room. */
+cells cornered(const cells *a);
+/* The bounds that cells reach; 0 where there is no cell. */
+int reached(const cells *a, int64_t c[8]);
+uint64_t number_of(const cells *a);
+int is_rising(const cells *a);
+int is_falling(const cells *a);
+void dilated(const cells *a, const cells *b, cells *out);
+void eroded(const cells *a, const cells *b, cells *out);
+/* Whether the cells are all those within the bounds that they reach. */
+int is_octagon(const cells *a);
+/* 1, 2 or the bounds of cells; none is the number where there are none. */
+answer place(const cells *a, uint32_t none);
+answer dilation_of_cells(const cells *a, const cells *b);
+answer opening_of_cells(const cells *p, const cells *f);
+answer closing_of_cells(const cells *p, const cells *f);
+/* The cells on and inside a walk of few steps that closes. */
+void walked(const int32_t start[2], const uint32_t sides[8], cells *out);
+int same_cells(const cells *a, const cells *b);
+
+/* ---- by search */
+
+answer normal_by_search(const int64_t c[8]);
+answer dilation_by_search(const int32_t p[8], const int32_t f[8], uint32_t n);
+answer erosion_by_search(const int32_t p[8], const int32_t f[8], uint32_t n);
+/* The corners of normalised bounds, from their lowest and highest rows and columns. */
+void corners_by_search(const int64_t c[8], int64_t at[8][2]);
+uint64_t count_by_rows(const int64_t c[8]);
+
+/* ---- by bytes */
+
+/* 0, or the outline's refusal: 3, then 2. */
+uint32_t walk_refusal(const int32_t start[2], const uint32_t sides[8]);
+uint32_t sheet_count(const uint8_t *s, size_t room, size_t len, uint32_t *count);
+plot record_in(const uint8_t *s, size_t len, uint32_t count, uint32_t k);
+uint32_t sheet_after_insert(uint8_t *s, size_t room, size_t len, const plot *p, size_t *grown);
+
+#endif

@@ -1,0 +1,13 @@
+-- A slice that is written whole, element by element. Assumes nothing.
+use mathlib.Core.Path.{_≡_, _∙_}
+use mathlib.Core.List.{List, [], append-nil}
+use Prim.Native.Nat.{ℕ, _<_}
+use native.Mathlib.Omega.{arith}
+use native.Mathlib.Nat.{zero-add, le-refl}
+use lib.ListN.{length, take, drop}
+use lib.Seq.{sets, sets-eq, lt-length-sets, length-sets, drop-length}
+
+module _ {A : Type 0} where
+  -- as many stores as the slice is long leave what was stored
+  pub written : (vs s : List A) → length s ≡ length vs → sets s 0 vs ≡ vs
+  written vs s e = sets-eq vs s 0 (omega (arith, e)) ∙ rw (zero-add, ← e, drop-length) (append-nil vs)

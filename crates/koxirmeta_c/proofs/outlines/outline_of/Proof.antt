@@ -1,0 +1,32 @@
+-- `outline_of` meets its contract: ten reads. Assumes nothing.
+use borrow.Author.Needs.{needs}
+use lib.IntN.{pos}
+use lib.ListN.{getD}
+use mir.Syntax.{w32}
+use Rattle.integers.proofs.Range.{kept}
+use Rattle.koxirmeta_c.specs.Outlines.{outline-of}
+use Rattle.koxirmeta_c.proofs.outlines.outline_of.Statement.{statement}
+use Rattle.koxirmeta_c.proofs.outlines.outline_of.Tie as tie
+
+returns : tie.Need-returns
+unfolding outline-of
+returns c =
+    let j = c .before .before .before .before .before .before .before .before in
+    let i = j .before in
+    rw (kept w32 {z = getD (i .before .args .start .now) 0 (pos 0)} (i .t4 .given), kept w32 {z = getD (i .before .args .start .now) 1 (pos 0)} (j .t6 .given))
+
+pub outline-of-spec : {M : Type 1} → statement M
+outline-of-spec =
+    tie.close
+    (tie.spec
+    (λ c. search needs)
+    (λ c. search needs)
+    (λ c. search needs)
+    (λ c. search needs)
+    (λ c. search needs)
+    (λ c. search needs)
+    (λ c. search needs)
+    (λ c. search needs)
+    (λ c. search needs)
+    (λ c. search needs)
+    returns)

@@ -1,0 +1,12 @@
+-- `put_outline` meets its contract: the start, then the sides. Assumes nothing.
+use mathlib.Core.Path.{ap₂}
+use borrow.Author.Needs.{needs}
+use Rattle.koxirmeta_c.proofs.outlines.put_outline.Statement.{statement}
+use Rattle.koxirmeta_c.proofs.outlines.put_outline.Tie as tie
+
+returns : tie.Need-returns
+returns c = rw (c .before .before .before .before .before .put-start .ensures, c .before .before .put-sides .ensures)
+
+pub put-outline-spec : {M : Type 1} → statement M
+put-outline-spec =
+    tie.close (tie.spec (λ c κs. search needs) (λ c κs. search needs) (λ c. search needs) (λ c. search needs) returns)

@@ -1,0 +1,4 @@
+-- What the contracts of the exported functions cite.
+pub mod Calls
+pub mod Outlines
+pub mod Sheets

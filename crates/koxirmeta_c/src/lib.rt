@@ -1,0 +1,14 @@
+// The library for C and Rust: the calls of document 01 on numbers and lent slices, without any `requires`.
+//
+// Every call answers a number: 0 where it is accepted, else the number of document 01's refusal, or `WRONG_LENGTH`. Where it is
+// not 0, nothing that was lent is altered. bindings/koxirmeta.h declares the calls for C; specs/Calls.antt says what each leaves.
+mod octagons;
+pub mod operations;
+pub mod outlines;
+pub mod sheets;
+
+// A slice of the wrong length: the caller's mistake, and no number of document 01.
+pub const WRONG_LENGTH: u32 = 255;
+
+// The answer of a call that is accepted.
+pub const ACCEPTED: u32 = 0;

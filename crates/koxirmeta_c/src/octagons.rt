@@ -1,0 +1,62 @@
+// Octagons in slices of eight bounds.
+ghost use mathlib.Core.Path.{_≡_};
+ghost use lib.ListN.{length};
+ghost use Rattle.octagon.specs.Answers.{outcome};
+ghost use Rattle.koxirmeta_c.specs.Calls as calls;
+use crate::ACCEPTED;
+use octagon::Answer;
+use octagon::Octagon;
+
+// The octagon of eight bounds.
+pub fn octagon_of(s: &[i32]) -> Octagon
+    requires { ⌜ length (now s) ≡ 8 ⌝ }
+    ensures { λ r. ⌜ r ≡ calls.octagon-of (now (s .entry)) ⌝ }
+{
+    Octagon {
+        c0: s[0],
+        c1: s[1],
+        c2: s[2],
+        c3: s[3],
+        c4: s[4],
+        c5: s[5],
+        c6: s[6],
+        c7: s[7],
+    }
+}
+
+// Writes the bounds of an octagon.
+fn put_bounds(out: &mut [i32], o: Octagon)
+    requires { ⌜ length (now out) ≡ 8 ⌝ }
+    ensures { λ _. ⌜ now (out .exit) ≡ calls.bounds-of o ⌝ }
+{
+    let c0 = o.c0;
+    let c1 = o.c1;
+    let c2 = o.c2;
+    let c3 = o.c3;
+    let c4 = o.c4;
+    let c5 = o.c5;
+    let c6 = o.c6;
+    let c7 = o.c7;
+    out[0] = c0;
+    out[1] = c1;
+    out[2] = c2;
+    out[3] = c3;
+    out[4] = c4;
+    out[5] = c5;
+    out[6] = c6;
+    out[7] = c7;
+}
+
+// Hands an answer over: its number, and where it is accepted its octagon.
+pub fn give(a: Answer, out: &mut [i32]) -> u32
+    requires { ⌜ length (now out) ≡ 8 ⌝ }
+    ensures { λ r. ⌜ calls.Hands (outcome a) calls.bounds-of (now (out .entry)) (now (out .exit)) r ⌝ }
+{
+    match a {
+        Answer::Octagon(o) => {
+            put_bounds(out, o);
+            ACCEPTED
+        }
+        Answer::Refused(k) => k,
+    }
+}

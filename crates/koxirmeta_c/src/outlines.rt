@@ -1,0 +1,124 @@
+// Outlines to octagons and back, and vertices in metres.
+ghost use mathlib.Core.Path.{_≡_};
+ghost use lib.ListN.{length};
+ghost use Rattle.koxirmeta_c.specs.Calls as calls;
+ghost use Rattle.koxirmeta_c.specs.Outlines as outlines;
+use crate::ACCEPTED;
+use crate::WRONG_LENGTH;
+use crate::octagons::give;
+use crate::octagons::octagon_of;
+use outline::Located;
+use outline::Outline;
+use outline::Traced;
+use outline::place::Place;
+use outline::to_octagon;
+use outline::to_outline;
+use outline::vertex_place;
+
+// The outline of a start and eight sides.
+pub fn outline_of(start: &[i32], sides: &[u32]) -> Outline
+    requires { ⌜ (length (now start) ≡ 2) × (length (now sides) ≡ 8) ⌝ }
+    ensures { λ r. ⌜ r ≡ outlines.outline-of (now (start .entry)) (now (sides .entry)) ⌝ }
+{
+    Outline {
+        i: start[0],
+        j: start[1],
+        n0: sides[0],
+        n1: sides[1],
+        n2: sides[2],
+        n3: sides[3],
+        n4: sides[4],
+        n5: sides[5],
+        n6: sides[6],
+        n7: sides[7],
+    }
+}
+
+// Writes the start of an outline.
+fn put_start(start: &mut [i32], o: Outline)
+    requires { ⌜ length (now start) ≡ 2 ⌝ }
+    ensures { λ _. ⌜ now (start .exit) ≡ outlines.start-of o ⌝ }
+{
+    let i = o.i;
+    let j = o.j;
+    start[0] = i;
+    start[1] = j;
+}
+
+// Writes the sides of an outline.
+fn put_sides(sides: &mut [u32], o: Outline)
+    requires { ⌜ length (now sides) ≡ 8 ⌝ }
+    ensures { λ _. ⌜ now (sides .exit) ≡ outlines.sides-of o ⌝ }
+{
+    sides[0] = o.n0;
+    sides[1] = o.n1;
+    sides[2] = o.n2;
+    sides[3] = o.n3;
+    sides[4] = o.n4;
+    sides[5] = o.n5;
+    sides[6] = o.n6;
+    sides[7] = o.n7;
+}
+
+// Writes an outline.
+pub fn put_outline(start: &mut [i32], sides: &mut [u32], o: Outline)
+    requires { ⌜ (length (now start) ≡ 2) × (length (now sides) ≡ 8) ⌝ }
+    ensures { λ _. ⌜ (now (start .exit), now (sides .exit)) ≡ outlines.parts-of o ⌝ }
+{
+    put_start(start, o);
+    put_sides(sides, o);
+}
+
+// Writes a place.
+fn put_place(place: &mut [f64], p: Place)
+    requires { ⌜ length (now place) ≡ 2 ⌝ }
+    ensures { λ _. ⌜ now (place .exit) ≡ outlines.metres-of p ⌝ }
+{
+    place[0] = p.east;
+    place[1] = p.north;
+}
+
+// The octagon of an outline.
+#[no_mangle]
+pub extern "C" fn kx_to_octagon(start: &[i32], sides: &[u32], out: &mut [i32]) -> u32
+    ensures { λ r. ⌜ calls.Hands (outlines.drawn (now (start .entry)) (now (sides .entry)) (now (out .entry))) calls.bounds-of (now (out .entry)) (now (out .exit)) r ⌝ }
+{
+    if (start.len() == 2) & (sides.len() == 8) & (out.len() == 8) {
+        return give(to_octagon(outline_of(start, sides)), out);
+    }
+    WRONG_LENGTH
+}
+
+// The outline of eight bounds.
+#[no_mangle]
+pub extern "C" fn kx_to_outline(bounds: &[i32], start: &mut [i32], sides: &mut [u32]) -> u32
+    ensures { λ r. ⌜ calls.Hands (outlines.outlining (now (bounds .entry)) (now (start .entry)) (now (sides .entry))) outlines.parts-of (now (start .entry), now (sides .entry)) (now (start .exit), now (sides .exit)) r ⌝ }
+{
+    if (bounds.len() == 8) & (start.len() == 2) & (sides.len() == 8) {
+        match to_outline(octagon_of(bounds)) {
+            Traced::Outline(o) => {
+                put_outline(start, sides, o);
+                return ACCEPTED;
+            }
+            Traced::Refused(k) => return k,
+        }
+    }
+    WRONG_LENGTH
+}
+
+// Vertex k of eight bounds in metres, east and north.
+#[no_mangle]
+pub extern "C" fn kx_vertex_place(bounds: &[i32], k: u32, place: &mut [f64]) -> u32
+    ensures { λ r. ⌜ calls.Hands (outlines.locating (now (bounds .entry)) k (now (place .entry))) outlines.metres-of (now (place .entry)) (now (place .exit)) r ⌝ }
+{
+    if (bounds.len() == 8) & (place.len() == 2) {
+        match vertex_place(octagon_of(bounds), k) {
+            Located::Place(p) => {
+                put_place(place, p);
+                return ACCEPTED;
+            }
+            Located::Refused(e) => return e,
+        }
+    }
+    WRONG_LENGTH
+}
