@@ -1,12 +1,12 @@
 // n-fold dilations and erosions up to six folds: the sets folded one at a time, beside the library's answers.
 use crate::grid::SIZE;
 use crate::pairs::IMPOSSIBLE;
+use crate::pairs::NOTHING_LEFT;
+use crate::pairs::OPPOSED_ROWS;
 use crate::pairs::compare_answers;
 use crate::pairs::octagon_of;
 use crate::sets;
 use crate::tally;
-use morphology::NOTHING_LEFT;
-use morphology::OPPOSED_ROWS;
 use morphology::folds::dilate_n;
 use morphology::folds::erode_n;
 use octagon::Octagon;

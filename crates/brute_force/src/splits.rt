@@ -8,7 +8,6 @@ use decomposition::Decomposed;
 use decomposition::Start;
 use decomposition::piece;
 use octagon::Answer;
-use octagon::NO_CELL;
 use octagon::Octagon;
 use outline::Outline;
 
