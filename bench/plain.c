@@ -21,7 +21,7 @@ static uint32_t normalise(const int32_t c[8], int32_t e[8]) {
     int64_t e3 = min(c[3], e2 + e4);
     int64_t e5 = min(c[5], e4 + e6);
     int64_t e7 = min(c[7], e6 + e0);
-    if (e0 + e0 > e7 + e1 || e2 + e2 > e1 + e3 || e4 + e4 > e3 + e5 || e6 + e6 > e5 + e7)
+    if (e0 + e4 < 0 || e1 + e5 < 0 || e2 + e6 < 0 || e3 + e7 < 0)
         return NO_CELL;
     if (e0 > LIMIT || e2 > LIMIT || e4 > LIMIT || e6 > LIMIT)
         return OFF_MAP;

@@ -1,12 +1,12 @@
--- Where bounds hold a cell, the sides of their normal form are nought or more: `form-normal`. Assumes nothing.
+-- Where the opposite bounds of a normal form meet, its sides are nought or more: `form-normal`. Assumes nothing.
 use mathlib.Core.Path.{refl}
 use native.Mathlib.Omega.{arith}
 use lib.IntN.{ℤ}
 use Rattle.integers.proofs.Linear.{Diff, #, _⊕_, neg, lit, _≼_, _≈_}
 use Rattle.octagon.specs.declared.Octagon.{Octagon}
 use Rattle.octagon.specs.NormalForm.{odd-bound, tight-even, tight-odd, normal-form}
-use Rattle.octagon.proofs.Within.{Within, Normal}
-use Rattle.octagon.proofs.Tight.{Under, even-under, even-over, odd-under, odd-over, even-in}
+use Rattle.octagon.proofs.Within.{Normal}
+use Rattle.octagon.proofs.Tight.{Under, even-under, even-over, odd-under, odd-over}
 
 -- the even bounds e of bounds c, each the greatest under its limits
 record Evens (c e : Octagon) : Type 0 where
@@ -32,6 +32,13 @@ evens c = record {
   o7 = refl;
 }
 
+-- each pair of opposite bounds leaves a line between them
+pub record Meeting (n : Octagon) : Type 0 where
+  pub m0 : lit 0 ≼ # (n .c0) ⊕ # (n .c4)
+  pub m1 : lit 0 ≼ # (n .c1) ⊕ # (n .c5)
+  pub m2 : lit 0 ≼ # (n .c2) ⊕ # (n .c6)
+  pub m3 : lit 0 ≼ # (n .c3) ⊕ # (n .c7)
+
 -- each even bound is at most a neighbour with the even bound beyond it
 record Slants (c e : Octagon) : Type 0 where
   a0 : # (e .c0) ≼ # (c .c7) ⊕ # (e .c2)
@@ -43,7 +50,7 @@ record Slants (c e : Octagon) : Type 0 where
   a6 : # (e .c6) ≼ # (c .c5) ⊕ # (e .c0)
   b6 : # (e .c6) ≼ # (c .c7) ⊕ # (e .c4)
 
-module _ (c : Octagon) (x y : ℤ) (i : Within c x y) (k : Within (tight-even c) x y) where
+module _ (c : Octagon) (k : Meeting (tight-even c)) where
   abbrev e : Octagon
   e = tight-even c
 
@@ -86,6 +93,18 @@ even-side f b e a s p q r t =
     let h : # e ⊕ # e ⊕ neg (# (odd-bound f b e)) ≼ # (odd-bound e a s) = odd-over (# e ⊕ # e ⊕ neg (# (odd-bound f b e))) e a s (omega arith) in
     omega arith
 
+-- the step over the odd bounds only brings them nearer
+slackened : (e : Octagon) → Meeting (tight-odd e) → Meeting e
+unfolding tight-odd
+slackened e m =
+    omega (
+      arith,
+      odd-under (e .c0) (e .c1) (e .c2),
+      odd-under (e .c2) (e .c3) (e .c4),
+      odd-under (e .c4) (e .c5) (e .c6),
+      odd-under (e .c6) (e .c7) (e .c0),
+    )
+
 -- the odd sides after the step over the odd bounds are nought or more
 pub record Odds (n : Octagon) : Type 0 where
   pub o1 : # (n .c1) ≼ # (n .c0) ⊕ # (n .c2)
@@ -104,17 +123,17 @@ odds e =
       odd-under (e .c6) (e .c7) (e .c0),
     )
 
-pub form-normal : (c : Octagon) (x y : ℤ) → Within c x y → Normal (normal-form c)
+pub form-normal : (c : Octagon) → Meeting (normal-form c) → Normal (normal-form c)
 unfolding normal-form tight-odd
-form-normal c x y i = go (even-in c x y i)
+form-normal c m = go (slackened (tight-even c) m)
   where
     e : Octagon
     e = tight-even c
 
-    go : Within e x y → Normal (normal-form c)
+    go : Meeting e → Normal (normal-form c)
     go k =
         let u : Evens c e = evens c in
-        let s : Slants c e = slants c x y i k in
+        let s : Slants c e = slants c k in
         let o = odds e in
         record {
           s0 = even-side (e .c6) (e .c7) (e .c0) (e .c1) (e .c2) (omega arith) (omega arith) (omega arith) (omega arith);

@@ -11,3 +11,4 @@ pub mod Outcomes
 pub mod Unique
 pub mod Sides
 pub mod NormalForms
+pub mod Examples

@@ -74,14 +74,13 @@ sides c = record {
   n7 = odd-side (c .c6) (c .c7) (c .c0);
 }
 
--- an even side is nought or more
-abbrev pub has-side : ℤ → ℤ → ℤ → Bool
-has-side before own after = leZ (own +ℤ own) (before +ℤ after)
+-- two opposite bounds leave a line between them
+abbrev pub meet : ℤ → ℤ → Bool
+meet a b = leZ (pos 0) (a +ℤ b)
 
--- a normal form has a cell where its even sides are nought or more: its odd sides always are
+-- a normal form has a cell where its opposite bounds meet, pair by pair; that does not hold of bounds that are slack
 unfoldable pub has-cell : Octagon → Bool
-has-cell c =
-    has-side (c .c7) (c .c0) (c .c1) && has-side (c .c1) (c .c2) (c .c3) && has-side (c .c3) (c .c4) (c .c5) && has-side (c .c5) (c .c6) (c .c7)
+has-cell c = meet (c .c0) (c .c4) && meet (c .c1) (c .c5) && meet (c .c2) (c .c6) && meet (c .c3) (c .c7)
 
 -- a bound is within the map's limit
 abbrev pub within-limit : ℤ → Bool

@@ -1,14 +1,12 @@
 // Eight bounds in 64 bits, wide enough for the sums of a normal form, and the steps to it.
 ghost use mathlib.Core.Path.{_≡_};
-ghost use mathlib.Core.Bool.{true};
 ghost use mir.Syntax.{w32};
 ghost use Rattle.integers.specs.Range.{Room};
 ghost use Rattle.octagon.specs.NormalForm as form;
-ghost use Rattle.octagon.specs.Answers.{outcome, «octagon-of»};
+ghost use Rattle.octagon.specs.Answers.{«octagon-of»};
 ghost use Rattle.octagon.specs.Widths.{Held, Roomy};
-use crate::Answer;
-use crate::OFF_MAP;
 use crate::Octagon;
+use crate::on_map;
 use integers::half;
 use integers::lesser;
 use integers::sum;
@@ -92,14 +90,13 @@ pub fn tighten_odd(b: Bounds) -> Bounds
     }
 }
 
-// Whether an even side is nought or more.
-fn has_side(before: i64, own: i64, after: i64) -> bool
-    requires { ⌜ Room 1 before ⌝ }
-    requires { ⌜ Room 1 own ⌝ }
-    requires { ⌜ Room 1 after ⌝ }
-    ensures { λ r. ⌜ r ≡ form.has-side before own after ⌝ }
+// Whether two opposite bounds leave a line between them.
+fn meet(a: i64, b: i64) -> bool
+    requires { ⌜ Room 1 a ⌝ }
+    requires { ⌜ Room 1 b ⌝ }
+    ensures { λ r. ⌜ r ≡ form.meet a b ⌝ }
 {
-    own + own <= before + after
+    0 <= a + b
 }
 
 // Whether a normal form has a cell.
@@ -107,33 +104,18 @@ pub fn has_cell(b: Bounds) -> bool
     requires { ⌜ Roomy 1 («octagon-of» b) ⌝ }
     ensures { λ r. ⌜ r ≡ form.has-cell («octagon-of» b) ⌝ }
 {
-    let c0 = b.c0;
-    let c1 = b.c1;
-    let c2 = b.c2;
-    let c3 = b.c3;
-    let c4 = b.c4;
-    let c5 = b.c5;
-    let c6 = b.c6;
-    let c7 = b.c7;
-    has_side(c7, c0, c1) & has_side(c1, c2, c3) & has_side(c3, c4, c5) & has_side(c5, c6, c7)
+    meet(b.c0, b.c4) & meet(b.c1, b.c5) & meet(b.c2, b.c6) & meet(b.c3, b.c7)
 }
 
-// Whether a bound is within the map's limit.
-fn within_limit(c: i64) -> bool
-    ensures { λ r. ⌜ r ≡ form.within-limit c ⌝ }
+// Whether normalised bounds are on the map.
+pub fn is_on_map(b: Bounds) -> bool
+    ensures { λ r. ⌜ r ≡ form.is-on-map («octagon-of» b) ⌝ }
 {
-    c <= Octagon::LIMIT as i64
-}
-
-// Whether normalised bounds are on the map, by the even ones.
-pub fn on_map(c0: i64, c2: i64, c4: i64, c6: i64) -> bool
-    ensures { λ r. ⌜ r ≡ form.are-within-limit c0 c2 c4 c6 ⌝ }
-{
-    within_limit(c0) & within_limit(c2) & within_limit(c4) & within_limit(c6)
+    on_map(b.c0, b.c2, b.c4, b.c6)
 }
 
 // The same bounds in 32 bits.
-fn narrow(b: Bounds) -> Octagon
+pub fn narrow(b: Bounds) -> Octagon
     requires { ⌜ Held w32 («octagon-of» b) ⌝ }
     ensures { λ r. ⌜ r ≡ «octagon-of» b ⌝ }
 {
@@ -147,15 +129,4 @@ fn narrow(b: Bounds) -> Octagon
         c6: b.c6 as i32,
         c7: b.c7 as i32,
     }
-}
-
-// Normalised bounds as an answer.
-pub fn placed(b: Bounds) -> Answer
-    requires { ⌜ (form.is-on-map («octagon-of» b) ≡ true → Held w32 («octagon-of» b)) ⌝ }
-    ensures { λ r. ⌜ outcome r ≡ form.placed («octagon-of» b) ⌝ }
-{
-    if on_map(b.c0, b.c2, b.c4, b.c6) {
-        return Answer::Octagon(narrow(b));
-    }
-    Answer::Refused(OFF_MAP)
 }

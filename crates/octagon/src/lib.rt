@@ -68,17 +68,32 @@ pub fn normalise(o: Octagon) -> Answer
     ensures { λ r. ⌜ outcome r ≡ form.normalised o ⌝ }
 {
     let b = bounds::tighten_odd(bounds::tighten_even(o));
-    if bounds::has_cell(b) {
-        return bounds::placed(b);
+    let some = bounds::has_cell(b);
+    if some & bounds::is_on_map(b) {
+        return Answer::Octagon(bounds::narrow(b));
     }
-    Answer::Refused(NO_CELL)
+    Answer::Refused(if some { OFF_MAP } else { NO_CELL })
+}
+
+// Whether a bound is within the map's limit.
+fn within_limit(c: i64) -> bool
+    ensures { λ r. ⌜ r ≡ form.within-limit c ⌝ }
+{
+    c <= Octagon::LIMIT as i64
+}
+
+// Whether normalised bounds are on the map, by the even ones.
+pub fn on_map(c0: i64, c2: i64, c4: i64, c6: i64) -> bool
+    ensures { λ r. ⌜ r ≡ form.are-within-limit c0 c2 c4 c6 ⌝ }
+{
+    within_limit(c0) & within_limit(c2) & within_limit(c4) & within_limit(c6)
 }
 
 // Normalised bounds as an answer: refused where they leave the map.
 pub fn place(o: Octagon) -> Answer
     ensures { λ r. ⌜ outcome r ≡ form.placed o ⌝ }
 {
-    if bounds::on_map(o.c0 as i64, o.c2 as i64, o.c4 as i64, o.c6 as i64) {
+    if on_map(o.c0 as i64, o.c2 as i64, o.c4 as i64, o.c6 as i64) {
         return Answer::Octagon(o);
     }
     Answer::Refused(OFF_MAP)

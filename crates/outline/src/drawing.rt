@@ -11,6 +11,7 @@ use crate::walk::vertex;
 use octagon::Answer;
 use octagon::OFF_MAP;
 use octagon::Octagon;
+use octagon::on_map;
 
 pub struct Bounds {
     pub c0: i64,
@@ -43,20 +44,6 @@ pub fn draw(o: Outline) -> Bounds
     }
 }
 
-// Whether a bound is within the map's limit.
-fn within_limit(c: i64) -> bool
-    ensures { λ r. ⌜ r ≡ form.within-limit c ⌝ }
-{
-    c <= Octagon::LIMIT as i64
-}
-
-// Whether normalised bounds are on the map.
-fn on_map(b: Bounds) -> bool
-    ensures { λ r. ⌜ r ≡ form.is-on-map (tracing.octagon-of b) ⌝ }
-{
-    within_limit(b.c0) & within_limit(b.c2) & within_limit(b.c4) & within_limit(b.c6)
-}
-
 // The same bounds in 32 bits.
 fn narrow(b: Bounds) -> Octagon
     requires { ⌜ Held w32 (tracing.octagon-of b) ⌝ }
@@ -79,7 +66,7 @@ pub fn placed(b: Bounds) -> Answer
     requires { ⌜ (form.is-on-map (tracing.octagon-of b) ≡ true → Held w32 (tracing.octagon-of b)) ⌝ }
     ensures { λ r. ⌜ outcome r ≡ form.placed (tracing.octagon-of b) ⌝ }
 {
-    if on_map(b) {
+    if on_map(b.c0, b.c2, b.c4, b.c6) {
         return Answer::Octagon(narrow(b));
     }
     Answer::Refused(OFF_MAP)

@@ -1,18 +1,18 @@
 -- Records and their bytes: what is read at an index, what is written, and the way there and back. Assumes nothing.
 use mathlib.Core.Path.{_≡_, refl, sym, ap, _∙_}
 use mathlib.Core.List.{List, [], _∷_}
-use Prim.Native.Nat.{ℕ, _^_, _<_}
+use Prim.Native.Nat.{ℕ, _+_, _^_, _<_}
 use native.Mathlib.Omega.{arith}
 use lib.ListN.{length, take, drop, getD}
-use lib.Seq.{take-all}
+use lib.Seq.{take-all, drop-drop}
 use lib.IntN.{ℤ}
 use Rattle.records.specs.Numbers.{number, signed, twos, total, packed, unpacked}
 use Rattle.records.specs.Parts.{part}
-use Rattle.records.specs.Rows.{key}
+use Rattle.records.specs.Rows.{key-width, key}
 use Rattle.records.proofs.Numbers.{Bytes, drop-bytes, number-take, signed-twos, twos-below, twos-signed}
 use Rattle.records.proofs.Fields.{Fit, none, more, length-packed, unpacked-all, packed-unpacked, unpacked-take, unpacked-fit, fit-at}
 use Rattle.sheet.specs.declared.Record.{Record}
-use Rattle.sheet.specs.Layout.{record-length, start-width, layout, values, record-from, encoded, decoded, Fits}
+use Rattle.sheet.specs.Layout.{record-length, start-width, layout, values, outline-from, record-from, encoded, decoded, Fits}
 
 -- the fields of a record take the record length
 pub layout-length : total layout ≡ record-length
@@ -29,24 +29,16 @@ pub decoded-at : (s : List ℕ) (at : ℕ) → decoded (part s at record-length)
 unfolding decoded
 decoded-at s at = ap record-from (unpacked-take layout (drop at s) record-length (omega arith))
 
--- the record made of numbers that were read there, i and j among them
-pub read-record : (s : List ℕ) (at : ℕ) (v : List ℕ) (i j : ℤ) → v ≡ unpacked layout (drop at s) → i ≡ signed start-width (getD v 1 0) → j ≡ signed start-width (getD v 2 0)
-    → record {
-      number = getD v 0 0;
-      outline = record {
-        i = i;
-        j = j;
-        n0 = getD v 3 0;
-        n1 = getD v 4 0;
-        n2 = getD v 5 0;
-        n3 = getD v 6 0;
-        n4 = getD v 7 0;
-        n5 = getD v 8 0;
-        n6 = getD v 9 0;
-        n7 = getD v 10 0;
-      };
-    } ≡ decoded (part s at record-length)
-read-record s at v i j e f g = rw (f, g) (ap record-from e ∙ sym (decoded-at s at))
+-- the fields after the plot number
+pub after-number : (s : List ℕ) (at : ℕ) → unpacked (drop 1 layout) (drop (at + key-width) s) ≡ drop 1 (unpacked layout (drop at s))
+after-number s at = ap (unpacked (drop 1 layout)) (sym (drop-drop key-width at s))
+
+pub read-outline : (s : List ℕ) (at : ℕ) → outline-from (drop 1 (unpacked layout (drop at s))) ≡ decoded (part s at record-length) .outline
+read-outline s at = ap (λ (r : Record). r .outline) (sym (decoded-at s at))
+
+-- its plot number
+pub read-number : (s : List ℕ) (at : ℕ) → number (part s at key-width) ≡ decoded (part s at record-length) .number
+read-number s at = ap (λ (r : Record). r .number) (sym (decoded-at s at))
 
 -- a field that was read fits its width
 pub field-below : (s : List ℕ) (at k : ℕ) → Bytes s → k < length layout → getD (unpacked layout (drop at s)) k 0 < 256 ^ getD layout k 0

@@ -9,6 +9,7 @@ use borrow.Author.Tests.{lt-ltb, le-ltb, ltb-true}
 use Rattle.octagon.specs.declared.Octagon.{Octagon}
 use Rattle.octagon.specs.Outcome.{Outcome, accepted, refused, then}
 use Rattle.octagon.proofs.Outcomes.{accepted-same, accepted-not-refused}
+use Rattle.outline.specs.declared.Outline.{Outline}
 use Rattle.outline.specs.Tracing.{traced}
 use Rattle.records.specs.Parts.{part}
 use Rattle.records.specs.Rows.{records, key, Rising, none, more}
@@ -20,21 +21,21 @@ use Rattle.sheet.proofs.RecordBytes.{key-decoded}
 
 -- ---- one record
 
-module _ (before : ℕ) (b : List ℕ) (r : Record) (e : r ≡ decoded b) where
-  number-is : key b ≡ r .number
-  number-is = key-decoded b ∙ ap (λ (x : Record). x .number) (sym e)
+module _ (before : ℕ) (b : List ℕ) (n : ℕ) (e : n ≡ decoded b .number) where
+  number-is : key b ≡ n
+  number-is = key-decoded b ∙ sym e
 
-  pub judged-number : r .number ≤ before → judged before b ≡ refused bad-number
+  pub judged-number : n ≤ before → judged before b ≡ refused bad-number
   unfolding judged
   judged-number h = rw (le-ltb before (key b) (omega (arith, number-is)))
 
-  pub judged-outline : before < r .number → {k : ℕ} → traced (r .outline) ≡ refused k → judged before b ≡ refused k
+  pub judged-outline : before < n → {o : Outline} → o ≡ decoded b .outline → {k : ℕ} → traced o ≡ refused k → judged before b ≡ refused k
   unfolding judged
-  judged-outline h {k} t = rw (lt-ltb before (key b) (omega (arith, number-is)), ← e, t)
+  judged-outline h f t = rw (lt-ltb before (key b) (omega (arith, number-is)), ← f, t)
 
-  pub judged-good : before < r .number → {o : Octagon} → traced (r .outline) ≡ accepted o → judged before b ≡ accepted (r .number)
+  pub judged-good : before < n → {o : Outline} → o ≡ decoded b .outline → {a : Octagon} → traced o ≡ accepted a → judged before b ≡ accepted n
   unfolding judged
-  judged-good h {o} t = rw (lt-ltb before (key b) (omega (arith, number-is)), ← e, t) (ap accepted number-is)
+  judged-good h f t = rw (lt-ltb before (key b) (omega (arith, number-is)), ← f, t) (ap accepted number-is)
 
 -- ---- one more
 

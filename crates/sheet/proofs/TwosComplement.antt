@@ -1,16 +1,17 @@
 -- Two's complement of two bytes, as the code computes it in 32 bits. Assumes nothing.
 use mathlib.Core.Path.{_≡_, refl, _∙_}
 use mathlib.Core.Bool.{true, false}
-use Prim.Native.Nat.{ℕ, suc, _+_, _-_, _^_, _≤_, _<_}
+use Prim.Native.Nat.{ℕ, suc, _+_, _-_, _%_, _^_, _<_}
 use native.Mathlib.Omega.{arith}
 use lib.IntN.{ℤ, pos, negsuc, subℕ, _+ℤ_, _-ℤ_}
 use lib.Signed.{ltZ}
 use mir.Syntax.{w16, w32}
 use mir.Val.{SFits, toZ, ofZ}
 use mir.Facts.{toZ-ofZ, sfits-widen}
-use borrow.Author.Tests.{lt-ltb, le-ltb, ltb-true}
+use borrow.Author.Tests.{ltb-true, ltb-false}
+use lib.Dec.{ltb}
 use Rattle.integers.proofs.Parts.{up, dn, subℕ-parts, parts-eq}
-use Rattle.integers.proofs.Tests.{true-is-not-false}
+use Rattle.integers.proofs.Tests.{cases, true-is-not-false}
 use Rattle.integers.proofs.Range.{kept, room-near, room-fits32}
 use Rattle.records.specs.Numbers.{signed, twos}
 use Rattle.records.proofs.Numbers.{twos-below}
@@ -20,21 +21,32 @@ use Rattle.records.proofs.Numbers.{twos-below}
 pub pos-bits : (v : ℕ) → v < 2 ^ 31 → toZ w32 v ≡ pos v
 pos-bits v h = kept w32 {z = pos v} h
 
-pub low-signed : (v : ℕ) → v < 32768 → toZ w32 v ≡ signed 2 v
-unfolding signed
-low-signed v h = rw (pos-bits v (omega arith), lt-ltb v 32768 h)
+-- a number below 256 ^ 2, turned half way round
+abbrev turned : ℕ → ℕ
+turned v = (v + 32768) % 65536
 
-pub high-fits : (v : ℕ) → v < 65536 → SFits w32 (toZ w32 v -ℤ pos 65536)
-high-fits v h = rw (pos-bits v (omega arith)) (fits v h)
-  where
-    fits : (v : ℕ) → v < 65536 → SFits w32 (pos v -ℤ pos 65536)
-    fits v h =
-        let d : up (subℕ v 65536) + 65536 ≡ v + dn (subℕ v 65536) = subℕ-parts v 65536 in
-        room-fits32 (room-near 32 65536 (subℕ v 65536) tt (omega arith) (omega arith))
+shifted : (v : ℕ) → toZ w32 (turned v) -ℤ pos 32768 ≡ subℕ (turned v) 32768
+shifted v = rw (pos-bits (turned v) (omega arith))
 
-pub high-signed : (v : ℕ) → 32768 ≤ v → v < 65536 → toZ w32 (ofZ w32 (toZ w32 v -ℤ pos 65536)) ≡ signed 2 v
-unfolding signed
-high-signed v h k = toZ-ofZ (high-fits v k) ∙ rw (pos-bits v (omega arith), le-ltb v 32768 h)
+pub turned-fits : (v : ℕ) → SFits w32 (toZ w32 (turned v) -ℤ pos 32768)
+turned-fits v =
+    let d : up (subℕ (turned v) 32768) + 32768 ≡ turned v + dn (subℕ (turned v) 32768) = subℕ-parts (turned v) 32768 in
+    rw (shifted v) (room-fits32 (room-near 32 65536 (subℕ (turned v) 32768) tt (omega arith) (omega arith)))
+
+-- and turned back is the signed number
+back : (v : ℕ) → v < 65536 → subℕ (turned v) 32768 ≡ signed 2 v
+unfolding signed up dn
+back v h =
+    let d : up (subℕ (turned v) 32768) + 32768 ≡ turned v + dn (subℕ (turned v) 32768) = subℕ-parts (turned v) 32768 in
+    cases (ltb v 32768)
+    (λ t. let l = ltb-true v 32768 t in rw t (parts-eq (subℕ (turned v) 32768) (pos v) (omega arith)))
+    (λ t.
+    let l = ltb-false v 32768 t in
+    let e : up (subℕ v 65536) + 65536 ≡ v + dn (subℕ v 65536) = subℕ-parts v 65536 in
+    rw t (parts-eq (subℕ (turned v) 32768) (subℕ v 65536) (omega arith)))
+
+pub turned-signed : (v : ℕ) → v < 65536 → toZ w32 (ofZ w32 (toZ w32 (turned v) -ℤ pos 32768)) ≡ signed 2 v
+turned-signed v h = toZ-ofZ (turned-fits v) ∙ shifted v ∙ back v h
 
 -- ---- from a signed number to two bytes
 

@@ -34,28 +34,32 @@ layout =
     key-width ∷ start-width ∷ start-width ∷
     side-width ∷ side-width ∷ side-width ∷ side-width ∷ side-width ∷ side-width ∷ side-width ∷ side-width ∷ []
 
--- the numbers in the fields of a record, and the record of these numbers
+-- the numbers in the fields of a record
 abbrev pub values : Record → List ℕ
 values r =
     let o = r .outline in
     r .number ∷ twos start-width (o .i) ∷ twos start-width (o .j) ∷ o .n0 ∷ o .n1 ∷ o .n2 ∷ o .n3 ∷ o .n4 ∷ o .n5 ∷ o .n6 ∷ o .n7 ∷ []
 
-abbrev pub record-from : List ℕ → Record
-record-from v = record {
-  number = getD v 0 0;
-  outline = record {
-    i = signed start-width (getD v 1 0);
-    j = signed start-width (getD v 2 0);
-    n0 = getD v 3 0;
-    n1 = getD v 4 0;
-    n2 = getD v 5 0;
-    n3 = getD v 6 0;
-    n4 = getD v 7 0;
-    n5 = getD v 8 0;
-    n6 = getD v 9 0;
-    n7 = getD v 10 0;
-  };
+-- the outline of the numbers after the first, and the record of them all
+abbrev pub outline-fields : ℕ
+outline-fields = 10
+
+abbrev pub outline-from : List ℕ → Outline
+outline-from v = record {
+  i = signed start-width (getD v 0 0);
+  j = signed start-width (getD v 1 0);
+  n0 = getD v 2 0;
+  n1 = getD v 3 0;
+  n2 = getD v 4 0;
+  n3 = getD v 5 0;
+  n4 = getD v 6 0;
+  n5 = getD v 7 0;
+  n6 = getD v 8 0;
+  n7 = getD v 9 0;
 }
+
+abbrev pub record-from : List ℕ → Record
+record-from v = record { number = getD v 0 0; outline = outline-from (drop 1 v) }
 
 -- the bytes of a record, and the record of these bytes
 unfoldable pub encoded : Record → List ℕ

@@ -10,7 +10,8 @@ ghost use Rattle.sheet.specs.Checking.{judged, surveyed};
 use crate::BAD_NUMBER;
 use crate::Checked;
 use crate::RECORD;
-use crate::encoding::record_at;
+use crate::encoding::outline_at;
+use crate::rows::key_at;
 use octagon::Answer;
 
 // The plot number of the record at an index. Refuses one that is not above `before`, then the outline's refusals.
@@ -18,13 +19,11 @@ fn judge(s: &[u8], at: usize, before: u32) -> Checked
     requires { ⌜ at + «record-length» ≤ length (now s) ⌝ }
     ensures { λ r. ⌜ «count-of» r ≡ judged before (part (now (s .entry)) at «record-length») ⌝ }
 {
-    let r = record_at(s, at);
-    let number = r.number;
+    let number = key_at(s, at);
     if number <= before {
         return Checked::Refused(BAD_NUMBER);
     }
-    let o = r.outline;
-    match outline::to_octagon(o) {
+    match outline::to_octagon(outline_at(s, at)) {
         Answer::Refused(k) => Checked::Refused(k),
         Answer::Octagon(_) => Checked::Count(number),
     }

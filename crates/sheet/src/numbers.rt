@@ -81,11 +81,7 @@ pub fn to_signed(v: u32) -> i32
     requires { ⌜ v < 65536 ⌝ }
     ensures { λ r. ⌜ r ≡ signed 2 v ⌝ }
 {
-    if v < 32768 {
-        v as i32
-    } else {
-        (v as i32) - 65536
-    }
+    (((v + 32768) % 65536) as i32) - 32768
 }
 
 // The two bytes of a signed number, as a number.

@@ -8,7 +8,7 @@ ghost use Rattle.records.specs.Rows.{records, «key-width», present, place};
 use crate::numbers::read_number;
 
 // The bytes of a plot number.
-const KEY_WIDTH: usize = 4;
+pub const KEY_WIDTH: usize = 4;
 
 // The plot number of the record at an index.
 pub fn key_at(s: &[u8], at: usize) -> u32

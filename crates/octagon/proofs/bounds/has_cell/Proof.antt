@@ -20,19 +20,18 @@ room c = rw (same c) (c .pre)
 returns : tie.Need-returns
 unfolding has-cell
 returns c =
-    let h3 = c .before in
-    let h2 = h3 .before in
-    let h1 = h2 .before in
-    let s = h1 .before .before .before .before .before .before .before .before .before in
-    and-is (and-is (and-is (h1 .has-side .ensures) (h2 .has-side2 .ensures)) (h3 .has-side3 .ensures)) (c .has-side4 .ensures)
-    ∙ ap has-cell (same s)
+    let m3 = c .before .before .before in
+    let m2 = m3 .before .before .before in
+    let m1 = m2 .before .before .before in
+    let s = m1 .before .before .before in
+    and-is (and-is (and-is (m1 .meet .ensures) (m2 .meet2 .ensures)) (m3 .meet3 .ensures)) (c .meet4 .ensures) ∙ ap has-cell (same s)
 
 pub has-cell-spec : {M : Type 1} → statement M
 has-cell-spec =
     tie.close
     (tie.spec
-    (λ c κs. let r = room (c .before .before .before .before .before .before .before .before) in (r .room7, (r .room0, r .room1)))
-    (λ c κs. let r = room (c .before .before .before .before .before .before .before .before .before) in (r .room1, (r .room2, r .room3)))
-    (λ c κs. let r = room (c .before .before .before .before .before .before .before .before .before .before) in (r .room3, (r .room4, r .room5)))
-    (λ c κs. let r = room (c .before .before .before .before .before .before .before .before .before .before .before) in (r .room5, (r .room6, r .room7)))
+    (λ c κs. let r = room (c .before .before) in (r .room0, r .room4))
+    (λ c κs. let r = room (c .before .before .before .before .before) in (r .room1, r .room5))
+    (λ c κs. let r = room (c .before .before .before .before .before .before .before .before) in (r .room2, r .room6))
+    (λ c κs. let r = room (c .before .before .before .before .before .before .before .before .before .before .before) in (r .room3, r .room7))
     returns)

@@ -1,6 +1,6 @@
 -- `to_signed` meets its contract. Assumes nothing.
 use borrow.Author.Needs.{needs}
-use Rattle.sheet.proofs.TwosComplement.{low-signed, high-fits, high-signed}
+use Rattle.sheet.proofs.TwosComplement.{turned-fits, turned-signed}
 use Rattle.sheet.proofs.numbers.to_signed.Statement.{statement}
 use Rattle.sheet.proofs.numbers.to_signed.Tie as tie
 
@@ -10,6 +10,5 @@ to-signed-spec =
     (tie.spec
     (λ c. search needs)
     (λ c. search needs)
-    (λ c. high-fits (c .before .args .v) (c .before .pre))
-    (λ c. low-signed (c .before .args .v) (c .if1 .taken))
-    (λ c. high-signed (c .before .args .v) (c .if1 .left) (c .before .pre)))
+    (λ c. turned-fits (c .args .v))
+    (λ c. turned-signed (c .args .v) (c .pre)))

@@ -2,8 +2,8 @@
 use mathlib.Core.Path.{_∙_}
 use mir.Facts.{toZ-ofZ}
 use Rattle.integers.proofs.Range.{and-is}
-use Rattle.octagon.proofs.bounds.on_map.Statement.{statement}
-use Rattle.octagon.proofs.bounds.on_map.Tie as tie
+use Rattle.octagon.proofs.on_map.Statement.{statement}
+use Rattle.octagon.proofs.on_map.Tie as tie
 
 returns : tie.Need-returns
 returns c =
