@@ -3,8 +3,8 @@
 
 An octagon's set is taken row by row: in row y the cells run from the greatest of three lower limits to the least of three upper
 limits. Both are piecewise linear in y, the width of a row is concave, and so is the greatest value of x, x-y, x+y and their
-opposites in a row. So the rows that have a cell are found from the widest row by bisection, and each tight bound by ternary search
-over them. None of this uses the library's normal form.
+opposites in a row. So the rows that have a cell are found from the widest row by bisection, each tight bound by ternary search
+over them, and the cells are counted row by row. None of this uses the library's normal form or its cell count.
 """
 
 LIMIT = 16000
@@ -72,29 +72,44 @@ def normal(c):
         most(lambda y: -ends(c, y)[0]),
         most(lambda y: -ends(c, y)[0] - y),
     )
-    return 2 if max(t[0], t[2], t[4], t[6]) > LIMIT else t
+    if max(t[0], t[2], t[4], t[6]) > LIMIT:
+        return 2
+    return t, sum(max(0, width(y) + 1) for y in range(bottom, up + 1))
 
 
 def show(answer):
-    return "refused %d" % answer if isinstance(answer, int) else " ".join(map(str, answer))
+    """A refusal number, or tight bounds and how many cells there are."""
+    if isinstance(answer, int):
+        return "refused %d" % answer
+    return "%s, cells %d" % (" ".join(map(str, answer[0])), answer[1])
 
 
 def around(cells):
-    """The tight bounds of a few cells, or refusal 2."""
+    """The tight bounds of a few cells and their number, or refusal 2."""
     if any(max(abs(x), abs(y)) > LIMIT for x, y in cells):
         return 2
     forms = (
         lambda x, y: -y, lambda x, y: x - y, lambda x, y: x, lambda x, y: x + y,
         lambda x, y: y, lambda x, y: y - x, lambda x, y: -x, lambda x, y: -x - y,
     )
-    return tuple(max(f(x, y) for x, y in cells) for f in forms)
+    return tuple(max(f(x, y) for x, y in cells) for f in forms), len(cells)
 
 
 def sums(a, b):
     return {(x + v, y + w) for x, y in a for v, w in b}
 
 
+def fits(plot, frame):
+    """The positions at which the whole frame stands inside the plot: each is a cell of the plot less one of the frame."""
+    return {(x - v, y - w) for x, y in plot for v, w in frame if all((x - v + a, y - w + b) in plot for a, b in frame)}
+
+
 def main():
+    plot = {(x, y) for x in range(-2, 3) for y in range(5) if abs(x) + abs(y - 2) <= 2}
+    frame = {(0, 0), (1, 0), (0, 1), (1, 1)}
+    print("plot:", show(around(plot)))
+    print("positions of the frame:", show(around(fits(plot, frame))))
+    print("ground that it opens:", show(around(sums(fits(plot, frame), frame))))
     print("cell (16000,0) spread by (0,0):", show(around(sums({(16000, 0)}, {(0, 0)}))))
     print("cell (16000,0) spread by (1,0):", show(around(sums({(16000, 0)}, {(1, 0)}))))
     cells = {(0, 0)}
@@ -108,7 +123,8 @@ def main():
     spread = sums(block, star)
     right = max(x for x, _ in spread)
     corner = (right, min(y for x, y in spread if x == right))
-    print("corner 2 is 0.75 east, 0.25 north:", "yes" if (corner[0] / 4, corner[1] / 4) == (0.75, 0.25) else "no")
+    print("the block spread by K13:", show(around(spread)))
+    print("its corner 2 is 0.75 east, 0.25 north:", "yes" if (corner[0] / 4, corner[1] / 4) == (0.75, 0.25) else "no")
     for c in (
         (MIN,) * 8,
         (MAX,) * 8,

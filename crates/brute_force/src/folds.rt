@@ -1,10 +1,10 @@
 // n-fold dilations and erosions up to six folds: the sets folded one at a time, beside the library's answers.
+use crate::answers::IMPOSSIBLE;
+use crate::answers::NOTHING_LEFT;
+use crate::answers::OPPOSED_ROWS;
+use crate::answers::compare_answers;
+use crate::answers::octagon_of;
 use crate::grid::SIZE;
-use crate::pairs::IMPOSSIBLE;
-use crate::pairs::NOTHING_LEFT;
-use crate::pairs::OPPOSED_ROWS;
-use crate::pairs::compare_answers;
-use crate::pairs::octagon_of;
 use crate::sets;
 use crate::tally;
 use morphology::folds::dilate_n;

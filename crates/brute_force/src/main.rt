@@ -2,10 +2,12 @@
 //
 // What is expected comes from document 01's eight inequalities and the set definitions 2.12 to 2.17 of source document 002
 // alone. tests/brute_force.py works the output out by itself.
+mod answers;
 mod bounds;
 mod draws;
 mod folds;
 mod grid;
+mod operands;
 mod pairs;
 mod picked;
 mod sets;

@@ -1,6 +1,6 @@
 // Plots rebuilt from the pieces of their split, as sets of cells: the start cell, dilated by each piece as often as it is counted.
+use crate::answers::NO_CELL;
 use crate::grid::SIZE;
-use crate::pairs::NO_CELL;
 use crate::sets;
 use crate::tally;
 use decomposition::Counts;

@@ -2,7 +2,7 @@
 use mathlib.Core.Path.{_≡_, refl}
 use mathlib.Core.List.{List, [], _∷_, map}
 use Prim.Native.Nat.{ℕ}
-use lib.IntN.{ℤ, pos, negsuc}
+use lib.IntN.{pos, negsuc}
 use Rattle.octagon.specs.declared.Octagon.{Octagon}
 use Rattle.octagon.specs.Outcome.{Outcome, accepted, refused, then}
 use Rattle.integers.specs.Minimum.{minℤ, halfℤ}
@@ -16,7 +16,7 @@ use Rattle.cell_count.specs.Area.{triangle, rectangle, corners, area, cell-coun
 use Rattle.morphology.specs.Operations.{sums, differences, is-rising, is-falling, are-opposed, dilation, erosion, opened}
 use Rattle.decomposition.specs.declared.Split.{Split}
 use Rattle.decomposition.specs.Splitting.{rest, triangles-of, with-rows, first-counts, is-crossed, joined, counts, split-of as split, decomposition}
-use Rattle.cases.specs.Shorthand.{bounds, outline, from-origin, block, three-by-three, K2, K4, K13, cell, pieces, spread, trim, open-by}
+use Rattle.cases.specs.Shorthand.{bounds, from-origin, block, three-by-three, K2, K4, K13, cell, pieces, spread, trim, open-by}
 
 -- an answer of one of the calls
 pub data Result : Type 0 where

@@ -1,6 +1,7 @@
 // The squared-paper cases of document 01 that are run, and `normalise` at extreme bounds. The starred cases are proved in specs/Starred.antt.
 //
-// Prints one line a case. tests/cases.py works the expected lines out on its own.
+// Prints one line a case: the answer, and where it is an octagon its bounds and its cell count. tests/cases.py works the expected lines
+// out on its own, by sets of cells.
 mod print;
 
 use octagon::Octagon;
@@ -13,27 +14,47 @@ const MIN: i32 = -2147483648;
 
 const MAX: i32 = 2147483647;
 
-fn cell(x: i32, y: i32) -> Outline {
+// The outline of a start and eight sides.
+fn outline_at(
+    i: i32,
+    j: i32,
+    n0: u32,
+    n1: u32,
+    n2: u32,
+    n3: u32,
+    n4: u32,
+    n5: u32,
+    n6: u32,
+    n7: u32,
+) -> Outline {
     Outline {
-        i: x,
-        j: y,
-        n0: 0,
-        n1: 0,
-        n2: 0,
-        n3: 0,
-        n4: 0,
-        n5: 0,
-        n6: 0,
-        n7: 0,
+        i,
+        j,
+        n0,
+        n1,
+        n2,
+        n3,
+        n4,
+        n5,
+        n6,
+        n7,
     }
 }
 
-// The octagon of one cell, which every caller here keeps on the map.
-fn at(x: i32, y: i32) -> Octagon {
-    match outline::to_octagon(cell(x, y)) {
-        octagon::Answer::Octagon(o) => o,
+// The row of K13 in the table of pieces.
+const K13: usize = 12;
+
+// The octagon of an outline, which every caller here keeps closed and on the map.
+fn octagon_of(o: Outline) -> Octagon {
+    match outline::to_octagon(o) {
+        octagon::Answer::Octagon(a) => a,
         octagon::Answer::Refused(_) => Octagon::ORIGIN,
     }
+}
+
+// One cell.
+fn at(x: i32, y: i32) -> Octagon {
+    octagon_of(outline_at(x, y, 0, 0, 0, 0, 0, 0, 0, 0))
 }
 
 fn edge_of_the_map() {
@@ -50,10 +71,9 @@ fn fold_limit() {
     answer(morphology::folds::dilate_n(Octagon::ORIGIN, Octagon::ORIGIN, 65536));
 }
 
-// Corner 2 of the block spread by K13, whose bounds are 0 2 3 5 3 3 1 0.
-fn corner_in_metres() {
-    text(b"corner 2 is 0.75 east, 0.25 north: ");
-    match outline::vertex_place(Octagon::new(0, 2, 3, 5, 3, 3, 1, 0), 2) {
+// Whether a place is 0.75 east and 0.25 north.
+fn tell_place(l: outline::Located) {
+    match l {
         outline::Located::Place(p) => {
             if p.east == 0.75 && p.north == 0.25 {
                 text(b"yes");
@@ -64,6 +84,18 @@ fn corner_in_metres() {
         outline::Located::Refused(_) => text(b"refused"),
     }
     end();
+}
+
+fn corner_in_metres() {
+    let block = octagon_of(outline_at(0, 0, 2, 0, 1, 0, 2, 0, 1, 0));
+    let spread = morphology::dilate(block, octagon_of(decomposition::piece(K13)));
+    text(b"the block spread by K13: ");
+    answer(spread);
+    let octagon::Answer::Octagon(o) = spread else {
+        return;
+    };
+    text(b"its corner 2 is 0.75 east, 0.25 north: ");
+    tell_place(outline::vertex_place(o, 2));
 }
 
 fn extreme(c0: i32, c1: i32, c2: i32, c3: i32, c4: i32, c5: i32, c6: i32, c7: i32) {
@@ -94,7 +126,20 @@ fn extremes_beside_others() {
     extreme(MAX, 7, MAX, 8, MAX, 7, MAX, 8);
 }
 
+// The worked example of the README: a plot, a frame of 2 by 2 cells, its positions, and the ground that it opens.
+fn worked_example() {
+    let plot = octagon_of(outline_at(0, 0, 0, 2, 0, 2, 0, 2, 0, 2));
+    let frame = octagon_of(outline_at(0, 0, 1, 0, 1, 0, 1, 0, 1, 0));
+    text(b"plot: ");
+    answer(octagon::normalise(plot));
+    text(b"positions of the frame: ");
+    answer(morphology::erode(plot, frame));
+    text(b"ground that it opens: ");
+    answer(morphology::opening(plot, frame));
+}
+
 fn main() {
+    worked_example();
     edge_of_the_map();
     fold_limit();
     corner_in_metres();

@@ -1,4 +1,5 @@
 // Text, numbers and answers on standard output.
+use cell_count::Count;
 use libc::STDOUT_FILENO;
 use octagon::Answer;
 use octagon::Octagon;
@@ -35,10 +36,24 @@ pub fn bounds(o: Octagon) {
     after_space(o.c7);
 }
 
+// The cell count of an octagon.
+fn cells(o: Octagon) {
+    match cell_count::count_cells(o) {
+        Count::Cells(n) => {
+            text(b", cells ");
+            io::print_decimal(STDOUT_FILENO, n as u64);
+        }
+        Count::Refused(_) => text(b", no count"),
+    }
+}
+
 // An answer, and the line's end.
 pub fn answer(a: Answer) {
     match a {
-        Answer::Octagon(o) => bounds(o),
+        Answer::Octagon(o) => {
+            bounds(o);
+            cells(o);
+        }
         Answer::Refused(n) => {
             text(b"refused ");
             io::print_decimal(STDOUT_FILENO, n as u64);

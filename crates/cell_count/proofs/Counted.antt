@@ -121,19 +121,3 @@ module _ (c d : Octagon) (m n : ℕ) (p : cell-count c ≡ accepted m) (q : cell
         count-means d n q .cells r l,
         count-lost r (inside d) (inside c) (inside-most c d h),
       )
-
--- the same of the formula, for two normal forms
-module _ (c a d b : Octagon) (p : normalised c ≡ accepted a) (q : normalised d ≡ accepted b) where
-  -- the same cells, the same area
-  pub area-equal : In a ≐ In b → area a ≡ area b
-  area-equal h = own-area c a p limit (omega arith) ∙ count-same limit (inside-same a b h) ∙ sym (own-area d b q limit (omega arith))
-
-  -- a subset has at most the area
-  pub area-subset : In a ⊆ In b → area a ≤ area b
-  area-subset h =
-      omega (
-        arith,
-        own-area c a p limit (omega arith),
-        own-area d b q limit (omega arith),
-        count-most limit {p = inside a} {q = inside b} (inside-most a b h),
-      )

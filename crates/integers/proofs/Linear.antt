@@ -1,12 +1,12 @@
 -- Linear facts on integers, in a form that `omega` reads: a sum of integers is a pair of sums of their natural parts.
--- `# x ⊕ # y ≼ # z` says that x + y is at most z; `le`, `of-le` and `same` are the ways to and from the library's order and equality.
+-- `# x ⊕ # y ≼ # z` says that x + y is at most z; `le` and `same` are the ways to the library's order and equality.
 -- Assumes nothing.
 use mathlib.Core.Path.{_≡_}
 use Prim.Native.Nat.{ℕ, _+_, _≤_}
 use native.Mathlib.Omega.{arith}
 use lib.IntN.{ℤ, subℕ}
 use lib.Signed.{_≤ℤ_}
-use Rattle.integers.proofs.Parts.{up, dn, subℕ-parts, le-parts, parts-le, parts-eq}
+use Rattle.integers.proofs.Parts.{up, dn, subℕ-parts, parts-le, parts-eq}
 
 -- a difference of two naturals, p less n
 pub record Diff : Type 0 where
@@ -46,9 +46,6 @@ int-parts d = subℕ-parts (d .p) (d .n)
 -- an order of integers that are equal to two differences
 pub le : {a b : ℤ} (d e : Diff) → # a ≈ d → # b ≈ e → d ≼ e → a ≤ℤ b
 le {a} {b} d e p q h = parts-le a b (omega arith)
-
-pub of-le : {a b : ℤ} (d e : Diff) → # a ≈ d → # b ≈ e → a ≤ℤ b → d ≼ e
-of-le {a} {b} d e p q h = let k : # a ≼ # b = le-parts h in omega arith
 
 -- two integers that are equal to one difference
 pub same : {a b : ℤ} (d : Diff) → # a ≈ d → # b ≈ d → a ≡ b

@@ -1,11 +1,10 @@
 -- A slice that is written whole, element by element. Assumes nothing.
 use mathlib.Core.Path.{_≡_, _∙_}
-use mathlib.Core.List.{List, [], append-nil}
-use Prim.Native.Nat.{ℕ, _<_}
+use mathlib.Core.List.{List, append-nil}
 use native.Mathlib.Omega.{arith}
-use native.Mathlib.Nat.{zero-add, le-refl}
-use lib.ListN.{length, take, drop}
-use lib.Seq.{sets, sets-eq, lt-length-sets, length-sets, drop-length}
+use native.Mathlib.Nat.{zero-add}
+use lib.ListN.{length}
+use lib.Seq.{sets, sets-eq, drop-length}
 
 module _ {A : Type 0} where
   -- as many stores as the slice is long leave what was stored

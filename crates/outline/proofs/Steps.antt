@@ -1,5 +1,5 @@
 -- The eight steps: what holds of each of eight, and a move along one as a linear fact. Assumes nothing.
-use Prim.Native.Nat.{ℕ, zero, suc, _+_, _*_, _<_}
+use Prim.Native.Nat.{ℕ, zero, suc, _*_, _<_}
 use native.Mathlib.Omega.{arith}
 use lib.IntN.{ℤ, pos, negsuc, _+ℤ_, _*ℤ_}
 use Rattle.integers.proofs.Parts.{up, dn, sum-parts, neg-up, neg-dn}

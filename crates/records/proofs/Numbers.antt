@@ -43,9 +43,6 @@ number-take zero s h = omega arith
 number-take (suc w) [] h = one-le-pow (suc w) 256 (omega arith)
 number-take (suc w) (b ∷ s) h = rw pow-suc (omega (arith, h 0, number-take w s (tail-bytes b s h)))
 
-pub number-below : (s : List ℕ) (at n : ℕ) → Bytes s → number (part s at n) < 256 ^ n
-number-below s at n h = number-take n (drop at s) (drop-bytes at s h)
-
 -- ---- there and back
 
 pub length-bytes : (w v : ℕ) → length (bytes w v) ≡ w

@@ -10,7 +10,7 @@ use lib.IntN.{ℤ, pos, negsuc, negℤ}
 use lib.ListN.{length, getD, length-append, List·getD-append}
 use borrow.Author.Tests.{lt-ltb, le-ltb, ltb-true, ltb-false, ne-eqb}
 use Rattle.integers.proofs.Tests.{cases}
-use Rattle.report.specs.Decimal.{digit, digits, decimal, read, value, minus, sign, signed, integer}
+use Rattle.report.specs.Decimal.{digit, digits, decimal, read, value, minus, signed, integer}
 
 -- ---- one digit, and one digit more
 

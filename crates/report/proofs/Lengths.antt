@@ -1,5 +1,5 @@
 -- No line of a listing is longer than `line-limit`, and no listing is longer than `text-limit`. Assumes nothing.
-use mathlib.Core.Path.{_≡_, refl, sym, ap, _∙_}
+use mathlib.Core.Path.{_≡_, refl}
 use mathlib.Core.Bool.{Bool, true, false, cond}
 use mathlib.Core.List.{List, [], _∷_, _++_, map}
 use Prim.Native.Nat.{ℕ, zero, suc, _+_, _*_, _^_, _≤_, _<_}
@@ -8,7 +8,6 @@ use lib.Dec.{ltb}
 use lib.IntN.{ℤ, pos, negsuc, subℕ, natAbs}
 use lib.ListN.{length, getD, drop, length-append}
 use Rattle.integers.proofs.Parts.{up, dn, subℕ-parts}
-use Rattle.integers.proofs.Tests.{cases}
 use Rattle.octagon.specs.Outcome.{Outcome, accepted, refused}
 use Rattle.octagon.proofs.Outcomes.{refused-same, accepted-not-refused}
 use Rattle.records.specs.Numbers.{signed as two-complement, unpacked}

@@ -1,5 +1,5 @@
 -- What a listing has, in the words of document 01. Assumes nothing.
-use mathlib.Core.Path.{_≡_, refl, sym, ap, _∙_}
+use mathlib.Core.Path.{_≡_, refl, ap, _∙_}
 use mathlib.Core.List.{List, [], _∷_, _++_, map}
 use Prim.Native.Nat.{ℕ, zero, suc, _<_}
 use native.Mathlib.Omega.{arith}
@@ -18,7 +18,6 @@ use Rattle.records.proofs.Rows.{length-records}
 use Rattle.sheet.specs.declared.Record.{Record}
 use Rattle.sheet.specs.Layout.{record-length, decoded}
 use Rattle.sheet.specs.Checking.{first, rows, checked, fetched}
-use Rattle.sheet.proofs.Surveys.{Traced}
 use Rattle.sheet.proofs.Checks.{checked-good, fetched-row}
 use Rattle.report.specs.Lines.{heading-line, row-line, last-line, refused-line}
 use Rattle.report.specs.Listing.{cells, plots, row, rows-of, total, full, listing}

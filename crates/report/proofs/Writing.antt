@@ -1,13 +1,12 @@
 -- Words put into a buffer one after the other. Assumes nothing.
 use mathlib.Core.Path.{_≡_, refl, sym, ap, _∙_}
 use mathlib.Core.List.{List, [], _∷_, _++_}
-use Prim.Native.Nat.{ℕ, _+_, _-_, _≤_, _<_}
+use Prim.Native.Nat.{ℕ, _+_, _≤_, _<_}
 use native.Mathlib.Omega.{arith}
 use native.Mathlib.Nat.{add-zero, add-assoc}
 use native.Mathlib.Numerals.{add-one}
 use lib.ListN.{length, take, getD, set, length-append}
 use lib.Seq.{length-take-le, take-suc, take-all}
-use Rattle.records.specs.Parts.{splice}
 use Rattle.records.proofs.Splices.{splice-nil, length-splice, splice-append, splice-one}
 use Rattle.report.specs.Lines.{Put, Counts}
 

@@ -1,11 +1,10 @@
 // Words of text put into a lent buffer from an index on. Each call answers the index past its word.
 ghost use mathlib.Core.List.{_∷_, [], map};
 ghost use Prim.Native.Nat.{_+_, _≤_, _<_};
-ghost use mathlib.Core.Path.{_≡_};
-ghost use lib.IntN.{natAbs};
 ghost use lib.ListN.{length};
 ghost use Rattle.report.specs.Decimal.{digit, decimal, sign, signed};
 ghost use Rattle.report.specs.Lines.{Put, space, spaced};
+use integers::magnitude;
 
 const MINUS: u8 = 45;
 
@@ -44,16 +43,6 @@ pub fn put_decimal(text: &mut [u8], at: usize, n: u64) -> usize
     }
     let last = put_decimal(text, at, n / 10);
     put_digit(text, last, n % 10)
-}
-
-// A number's magnitude.
-fn magnitude(z: i32) -> u64
-    ensures { λ r. ⌜ r ≡ natAbs z ⌝ }
-{
-    if z < 0 {
-        return (0 - (z as i64)) as u64;
-    }
-    z as u64
 }
 
 // A number's minus sign, where it has one.

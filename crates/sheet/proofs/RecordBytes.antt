@@ -5,8 +5,7 @@ use Prim.Native.Nat.{ℕ, _+_, _^_, _<_}
 use native.Mathlib.Omega.{arith}
 use lib.ListN.{length, take, drop, getD}
 use lib.Seq.{take-all, drop-drop}
-use lib.IntN.{ℤ}
-use Rattle.records.specs.Numbers.{number, signed, twos, total, packed, unpacked}
+use Rattle.records.specs.Numbers.{number, twos, total, packed, unpacked}
 use Rattle.records.specs.Parts.{part}
 use Rattle.records.specs.Rows.{key-width, key}
 use Rattle.records.proofs.Numbers.{Bytes, drop-bytes, number-take, signed-twos, twos-below, twos-signed}

@@ -13,7 +13,6 @@ use Rattle.outline.specs.declared.Outline.{Outline}
 use Rattle.outline.specs.Tracing.{traced}
 use Rattle.records.specs.Parts.{part}
 use Rattle.records.specs.Rows.{records, key, Rising, none, more}
-use Rattle.sheet.specs.declared.Record.{Record}
 use Rattle.sheet.specs.Layout.{record-length, decoded}
 use Rattle.sheet.specs.Answers.{bad-number}
 use Rattle.sheet.specs.Checking.{judged, surveyed}

@@ -5,7 +5,6 @@ use native.Mathlib.Omega.{arith}
 use lib.ListN.{length}
 use borrow.Author.Needs.{needs}
 use Rattle.octagon.specs.Outcome.{accepted, refused}
-use Rattle.records.proofs.Numbers.{Bytes}
 use Rattle.sheet.specs.Answers.{count-of}
 use Rattle.sheet.specs.Checking.{checked}
 use Rattle.report.specs.Listing.{listing, text-limit}

@@ -2,7 +2,6 @@
 use mathlib.Core.Path.{_≡_, refl, sym, _∙_, ap}
 use borrow.Author.Needs.{needs}
 use borrow.Author.Tests.{eq-eqb, ne-eqb}
-use Rattle.octagon.specs.Outcome.{accepted, refused}
 use Rattle.cell_count.specs.Answers.{outcome}
 use Rattle.cell_count.specs.Area.{cell-count}
 use Rattle.koxirmeta_c.specs.Calls.{octagon-of, counted}

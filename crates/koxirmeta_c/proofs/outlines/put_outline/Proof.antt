@@ -1,5 +1,4 @@
 -- `put_outline` meets its contract: the start, then the sides. Assumes nothing.
-use mathlib.Core.Path.{ap₂}
 use borrow.Author.Needs.{needs}
 use Rattle.koxirmeta_c.proofs.outlines.put_outline.Statement.{statement}
 use Rattle.koxirmeta_c.proofs.outlines.put_outline.Tie as tie

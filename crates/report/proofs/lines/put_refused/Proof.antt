@@ -1,5 +1,5 @@
 -- `put_refused` meets its contract. Assumes nothing.
-use mathlib.Core.List.{List, [], _∷_, _++_}
+use mathlib.Core.List.{[], _∷_, _++_}
 use borrow.Author.Needs.{needs}
 use Rattle.report.specs.Text.{ascii}
 use Rattle.report.specs.Decimal.{decimal}

@@ -1,5 +1,5 @@
 -- `put_start` meets its contract. Assumes nothing.
-use mathlib.Core.List.{List, _∷_, _++_}
+use mathlib.Core.List.{_∷_, _++_}
 use mir.Facts.{toZ-ofZ}
 use Rattle.report.specs.Decimal.{decimal, signed}
 use Rattle.report.specs.Lines.{space, row-start}

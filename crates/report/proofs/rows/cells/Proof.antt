@@ -1,7 +1,7 @@
 -- `cells` meets its contract: the cases of the two answers. Assumes nothing.
-use mathlib.Core.Path.{_≡_, refl, sym, ap, _∙_}
+use mathlib.Core.Path.{_≡_, sym, ap, _∙_}
 use borrow.Author.Needs.{needs}
-use Rattle.octagon.specs.Outcome.{accepted, refused}
+use Rattle.octagon.specs.Outcome.{accepted}
 use Rattle.octagon.specs.Answers.{outcome}
 use Rattle.outline.specs.Tracing.{traced}
 use Rattle.cell_count.specs.Answers.{outcome as count-outcome}

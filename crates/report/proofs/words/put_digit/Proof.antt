@@ -1,6 +1,5 @@
 -- `put_digit` meets its contract. Assumes nothing.
 use borrow.Author.Needs.{needs}
-use Rattle.report.specs.Decimal.{digit}
 use Rattle.report.proofs.Writing.{put-byte}
 use Rattle.report.proofs.words.put_digit.Statement.{statement}
 use Rattle.report.proofs.words.put_digit.Tie as tie

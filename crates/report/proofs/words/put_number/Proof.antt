@@ -1,6 +1,6 @@
 -- `put_number` meets its contract. Assumes nothing.
 use native.Mathlib.Omega.{arith}
-use lib.ListN.{length, length-set}
+use lib.ListN.{length-set}
 use borrow.Author.Needs.{needs}
 use Rattle.report.specs.Decimal.{decimal}
 use Rattle.report.specs.Lines.{space}

@@ -1,5 +1,5 @@
 -- `put_numbers` meets its contract. The invariant: the numbers from the k-th on and the newline are left. Assumes nothing.
-use Prim.Native.Nat.{ℕ, _+_, _-_, _≤_}
+use Prim.Native.Nat.{_-_, _≤_}
 use native.Mathlib.Omega.{arith}
 use lib.ListN.{length}
 use borrow.Author.Needs.{needs}
