@@ -407,7 +407,7 @@ static void compare_full(void) {
 }
 
 int main(int argc, char **argv) {
-    uint64_t rounds = argc > 1 ? strtoull(argv[1], NULL, 10) : 1000000, sheets = argc > 2 ? strtoull(argv[2], NULL, 10) : 200000;
+    uint64_t rounds = argc > 1 ? strtoull(argv[1], NULL, 10) : 1000000, sheets = argc > 2 ? strtoull(argv[2], NULL, 10) : 1000000;
     for (uint64_t i = 0; i < rounds; i++) {
         int32_t p[8], f[8];
         int rows = any() % 8 == 0;
