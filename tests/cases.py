@@ -110,6 +110,7 @@ def main():
     print("plot:", show(around(plot)))
     print("positions of the frame:", show(around(fits(plot, frame))))
     print("ground that it opens:", show(around(sums(fits(plot, frame), frame))))
+    print("the price list's figure, cells %d" % len(sums(fits(plot, frame), frame)))
     print("cell (16000,0) spread by (0,0):", show(around(sums({(16000, 0)}, {(0, 0)}))))
     print("cell (16000,0) spread by (1,0):", show(around(sums({(16000, 0)}, {(1, 0)}))))
     cells = {(0, 0)}

@@ -1,1 +1,2 @@
+-- What the proofs of this program cite.
 pub mod Range

@@ -4,6 +4,8 @@
 // out on its own, by sets of cells.
 mod print;
 
+use cell_count::Count;
+use octagon::Answer;
 use octagon::Octagon;
 use outline::Outline;
 use print::answer;
@@ -47,8 +49,8 @@ const K13: usize = 12;
 // The octagon of an outline, which every caller here keeps closed and on the map.
 fn octagon_of(o: Outline) -> Octagon {
     match outline::to_octagon(o) {
-        octagon::Answer::Octagon(a) => a,
-        octagon::Answer::Refused(_) => Octagon::ORIGIN,
+        Answer::Octagon(a) => a,
+        Answer::Refused(_) => Octagon::ORIGIN,
     }
 }
 
@@ -91,7 +93,7 @@ fn corner_in_metres() {
     let spread = morphology::dilate(block, octagon_of(decomposition::piece(K13)));
     text(b"the block spread by K13: ");
     answer(spread);
-    let octagon::Answer::Octagon(o) = spread else {
+    let Answer::Octagon(o) = spread else {
         return;
     };
     text(b"its corner 2 is 0.75 east, 0.25 north: ");
@@ -126,9 +128,21 @@ fn extremes_beside_others() {
     extreme(MAX, 7, MAX, 8, MAX, 7, MAX, 8);
 }
 
-// The worked example of the README: a plot, a frame of 2 by 2 cells, its positions, and the ground that it opens.
+// The price list's figure: the cells of a plot that a frame can open, or the number of a refusal.
+fn figure(surveyed: Outline, frame: Octagon) -> Count {
+    match outline::to_octagon(surveyed) {
+        Answer::Octagon(plot) => match morphology::opening(plot, frame) {
+            Answer::Octagon(opened) => cell_count::count_cells(opened),
+            Answer::Refused(n) => Count::Refused(n),
+        },
+        Answer::Refused(n) => Count::Refused(n),
+    }
+}
+
+// The worked example of the README: a plot, a frame of 2 by 2 cells, its positions, the ground that it opens, and the figure.
 fn worked_example() {
-    let plot = octagon_of(outline_at(0, 0, 0, 2, 0, 2, 0, 2, 0, 2));
+    let surveyed = outline_at(0, 0, 0, 2, 0, 2, 0, 2, 0, 2);
+    let plot = octagon_of(surveyed);
     let frame = octagon_of(outline_at(0, 0, 1, 0, 1, 0, 1, 0, 1, 0));
     text(b"plot: ");
     answer(octagon::normalise(plot));
@@ -136,6 +150,9 @@ fn worked_example() {
     answer(morphology::erode(plot, frame));
     text(b"ground that it opens: ");
     answer(morphology::opening(plot, frame));
+    text(b"the price list's figure");
+    print::count(figure(surveyed, frame));
+    end();
 }
 
 fn main() {

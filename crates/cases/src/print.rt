@@ -36,9 +36,9 @@ pub fn bounds(o: Octagon) {
     after_space(o.c7);
 }
 
-// The cell count of an octagon.
-fn cells(o: Octagon) {
-    match cell_count::count_cells(o) {
+// A cell count.
+pub fn count(c: Count) {
+    match c {
         Count::Cells(n) => {
             text(b", cells ");
             io::print_decimal(STDOUT_FILENO, n as u64);
@@ -52,7 +52,7 @@ pub fn answer(a: Answer) {
     match a {
         Answer::Octagon(o) => {
             bounds(o);
-            cells(o);
+            count(cell_count::count_cells(o));
         }
         Answer::Refused(n) => {
             text(b"refused ");

@@ -1,5 +1,5 @@
 -- The normal form of eight bounds, its sides, and the answer of `normalise`: definitions that compute.
--- proofs/Normalising.antt says what they mean in sets. Assumes nothing.
+-- proofs/NormalForms.antt says what they mean in sets. Assumes nothing.
 use mathlib.Core.Bool.{Bool, cond, _&&_}
 use lib.IntN.{ℤ, pos, _+ℤ_, _-ℤ_}
 use lib.Signed.{leZ}

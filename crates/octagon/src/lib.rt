@@ -1,7 +1,7 @@
 // Octagons of whole cells by their eight bounds, and their normal form.
 //
 // The cells of an octagon are those with -y <= c0, x-y <= c1, x <= c2, x+y <= c3, y <= c4, -x+y <= c5, -x <= c6, -x-y <= c7.
-// specs/Cells.antt has the sets, specs/NormalForm.antt what `normalise` answers, proofs/Normalising.antt the theorems between them.
+// specs/Cells.antt has the sets, specs/NormalForm.antt what `normalise` answers, proofs/Normalising.antt and NormalForms.antt the theorems between them.
 ghost use mathlib.Core.Path.{_≡_};
 ghost use Rattle.octagon.specs.NormalForm as form;
 ghost use Rattle.octagon.specs.Answers.{outcome};
