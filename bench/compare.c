@@ -7,7 +7,7 @@
 #include <string.h>
 
 static uint64_t seed = 0x9e3779b97f4a7c15u;
-static uint64_t compared, accepted, by_cells, seen[256];
+static uint64_t compared, accepted, octagons_by_cells, pairs_by_cells, outlines_by_cells, seen[256];
 
 static uint32_t any(void) {
     seed ^= seed << 13;
@@ -120,7 +120,6 @@ static answer normal(const int32_t c[8]) {
         answer s = place(&a, 1);
         if (s.number != r.number || (!s.number && memcmp(s.c, r.c, sizeof s.c)))
             differ("the two ways of the comparison itself", c, NULL, s.number, r.number);
-        by_cells++;
         return s;
     }
     return r;
@@ -132,6 +131,7 @@ static void compare_one(const int32_t c[8], uint64_t round) {
     double metres[2] = {-1.5, -2.5};
     cells a, w;
     answer r = normal(c);
+    octagons_by_cells += cells_of(c, &a) != 0;
     clear(out);
     check("kx_normalise", c, NULL, kx_normalise(c, 8, out, 8), out, r);
 
@@ -203,7 +203,7 @@ static void compare_two(const int32_t p[8], const int32_t f[8]) {
                 dil_n = place(&sum, 1);
             ero_n = many ? place(&rest, 5) : ero_n;
         }
-        by_cells++;
+        pairs_by_cells++;
     } else {
         int32_t mid[8];
         for (int k = 0; k < 8; k++)
@@ -251,7 +251,7 @@ static void compare_outline(void) {
             answer by = place(&w, 1);
             if (by.number || memcmp(by.c, want.c, sizeof by.c) || !is_octagon(&w))
                 differ("the two ways of the comparison itself", start, NULL, by.number, want.number);
-            by_cells++;
+            outlines_by_cells++;
         }
     }
     clear(out);
@@ -407,7 +407,7 @@ static void compare_full(void) {
 }
 
 int main(int argc, char **argv) {
-    uint64_t rounds = argc > 1 ? strtoull(argv[1], NULL, 10) : 1000000, sheets = argc > 2 ? strtoull(argv[2], NULL, 10) : 1000000;
+    uint64_t rounds = argc > 1 ? strtoull(argv[1], NULL, 10) : 4000000, sheets = argc > 2 ? strtoull(argv[2], NULL, 10) : 1000000;
     for (uint64_t i = 0; i < rounds; i++) {
         int32_t p[8], f[8];
         int rows = any() % 8 == 0;
@@ -422,7 +422,8 @@ int main(int argc, char **argv) {
     for (uint64_t i = 0; i < sheets; i++)
         compare_sheet();
     compare_full();
-    printf("inputs %llu, calls compared %llu, by sets of cells %llu, accepted %llu, no difference\n", (unsigned long long)(rounds + sheets), (unsigned long long)compared, (unsigned long long)by_cells, (unsigned long long)accepted);
+    printf("inputs %llu, calls compared %llu, accepted %llu, no difference\n", (unsigned long long)(rounds + sheets), (unsigned long long)compared, (unsigned long long)accepted);
+    printf("by sets of cells: octagons %llu, pairs %llu, outlines %llu\n", (unsigned long long)octagons_by_cells, (unsigned long long)pairs_by_cells, (unsigned long long)outlines_by_cells);
     printf("answers");
     for (int k = 0; k < 256; k++)
         if (seen[k])

@@ -92,37 +92,30 @@ uint32_t plain_count(const int32_t *bounds, size_t bounds_len, uint32_t *cells) 
     return 0;
 }
 
-uint32_t plain_dilate(const int32_t *plot, size_t plot_len, const int32_t *element, size_t element_len, int32_t *out, size_t out_len) {
-    if (plot_len != 8 || element_len != 8 || out_len != 8)
-        return WRONG_LENGTH;
-    return dilate(plot, element, out);
-}
-
-uint32_t plain_erode(const int32_t *plot, size_t plot_len, const int32_t *element, size_t element_len, int32_t *out, size_t out_len) {
-    if (plot_len != 8 || element_len != 8 || out_len != 8)
-        return WRONG_LENGTH;
-    return erode(plot, element, out);
-}
-
-uint32_t plain_opening(const int32_t *plot, size_t plot_len, const int32_t *element, size_t element_len, int32_t *out, size_t out_len) {
+static uint32_t opening(const int32_t p[8], const int32_t f[8], int32_t out[8]) {
     int32_t left[8];
-    if (plot_len != 8 || element_len != 8 || out_len != 8)
-        return WRONG_LENGTH;
-    uint32_t refused = erode(plot, element, left);
-    if (refused)
-        return refused;
-    return dilate(left, element, out);
+    uint32_t refused = erode(p, f, left);
+    return refused ? refused : dilate(left, f, out);
 }
 
-uint32_t plain_closing(const int32_t *plot, size_t plot_len, const int32_t *element, size_t element_len, int32_t *out, size_t out_len) {
+static uint32_t closing(const int32_t p[8], const int32_t f[8], int32_t out[8]) {
     int32_t spread[8];
-    if (plot_len != 8 || element_len != 8 || out_len != 8)
-        return WRONG_LENGTH;
-    uint32_t refused = dilate(plot, element, spread);
-    if (refused)
-        return refused;
-    return erode(spread, element, out);
+    uint32_t refused = dilate(p, f, spread);
+    return refused ? refused : erode(spread, f, out);
 }
+
+/* A call of two operands, where the lengths of its slices are right. */
+#define ON_TWO(operation)                                                                                              \
+    uint32_t plain_##operation(const int32_t *plot, size_t plot_len, const int32_t *element, size_t element_len, int32_t *out, size_t out_len) { \
+        if (plot_len != 8 || element_len != 8 || out_len != 8)                                                         \
+            return WRONG_LENGTH;                                                                                       \
+        return operation(plot, element, out);                                                                          \
+    }
+
+ON_TWO(dilate)
+ON_TWO(erode)
+ON_TWO(opening)
+ON_TWO(closing)
 
 static uint32_t u16_at(const uint8_t *s) { return (uint32_t)s[0] | (uint32_t)s[1] << 8; }
 

@@ -1,5 +1,6 @@
 -- The starred squared-paper cases of document 01, in its order and numbers, by one computed test over the list. Assumes nothing.
 use mathlib.Core.Path.{_≡_, refl}
+use mathlib.Core.Bool.{Bool, true}
 use mathlib.Core.List.{List, [], _∷_, map}
 use Prim.Native.Nat.{ℕ}
 use lib.IntN.{pos, negsuc}
@@ -12,6 +13,7 @@ use Rattle.outline.specs.Closing.{closes}
 use Rattle.outline.specs.Walk.{vertex}
 use Rattle.outline.specs.Tracing.{bounds-at, drawn, traced}
 use Rattle.outline.specs.Outlining.{outline-of as drawn-sides, outlined}
+use Rattle.cell_count.specs.Count.{inside}
 use Rattle.cell_count.specs.Area.{triangle, rectangle, corners, area, cell-count}
 use Rattle.morphology.specs.Operations.{sums, differences, is-rising, is-falling, are-opposed, dilation, erosion, opened}
 use Rattle.decomposition.specs.declared.Split.{Split}
@@ -23,6 +25,7 @@ pub data Result : Type 0 where
   octagon-of : Outcome Octagon → Result
   outline-of : Outcome Outline → Result
   cells-of : Outcome ℕ → Result
+  is-cell : Bool → Result
   split-of : Outcome Split → Result
 
 -- what a definition gives, and what document 01 says that it gives
@@ -43,6 +46,8 @@ starred =
     is (octagon-of (normalised (bounds (pos 0) (pos 0) (pos 9) (pos 1) (pos 2) (pos 9) (pos 0) (pos 0))))
     (octagon-of (accepted (bounds (pos 0) (pos 0) (pos 0) (pos 1) (pos 1) (pos 1) (pos 0) (pos 0)))) ∷
     is (cells-of (cell-count (bounds (pos 0) (pos 0) (pos 9) (pos 1) (pos 2) (pos 9) (pos 0) (pos 0)))) (cells-of (accepted 2)) ∷
+    is (is-cell (inside (bounds (pos 0) (pos 0) (pos 9) (pos 1) (pos 2) (pos 9) (pos 0) (pos 0)) (pos 0) (pos 0))) (is-cell true) ∷
+    is (is-cell (inside (bounds (pos 0) (pos 0) (pos 9) (pos 1) (pos 2) (pos 9) (pos 0) (pos 0)) (pos 0) (pos 1))) (is-cell true) ∷
     -- c1=0 c5=0 c3=1 c7=-1, others 5: refusal 1.
     is (octagon-of (normalised (bounds (pos 5) (pos 0) (pos 5) (pos 1) (pos 5) (pos 0) (pos 5) (negsuc 0)))) (octagon-of (refused 1)) ∷
     -- Outline n0=1 alone: 3.
@@ -68,5 +73,5 @@ starred =
 
 -- each gives what document 01 says
 pub starred-cases : map (λ c. c .given) starred ≡ map (λ c. c .expected) starred
-unfolding starred normalised normal-form tight-odd tight-even even-bound odd-bound minℤ halfℤ has-cell placed is-on-map sides traced closes drawn bounds-at vertex outlined drawn-sides cell-count area rectangle corners triangle dilation erosion opened sums differences are-opposed is-rising is-falling decomposition split rest triangles-of with-rows first-counts is-crossed joined counts
+unfolding starred normalised normal-form tight-odd tight-even even-bound odd-bound minℤ halfℤ has-cell placed is-on-map sides traced closes drawn bounds-at vertex outlined drawn-sides inside cell-count area rectangle corners triangle dilation erosion opened sums differences are-opposed is-rising is-falling decomposition split rest triangles-of with-rows first-counts is-crossed joined counts
 starred-cases = refl

@@ -2,6 +2,7 @@
 //
 // Every call answers a number: 0 where it is accepted, else the number of document 01's refusal, or `WRONG_LENGTH`. Where it is
 // not 0, nothing that was lent is altered. bindings/koxirmeta.h declares the calls for C; specs/Calls.antt says what each leaves.
+mod codes;
 mod octagons;
 pub mod operations;
 pub mod outlines;

@@ -5,8 +5,8 @@ use lib.ListN.{getD}
 use mir.Syntax.{w32}
 use Rattle.integers.proofs.Range.{kept}
 use Rattle.koxirmeta_c.specs.Outlines.{outline-of}
-use Rattle.koxirmeta_c.proofs.outlines.outline_of.Statement.{statement}
-use Rattle.koxirmeta_c.proofs.outlines.outline_of.Tie as tie
+use Rattle.koxirmeta_c.proofs.codes.outline_of.Statement.{statement}
+use Rattle.koxirmeta_c.proofs.codes.outline_of.Tie as tie
 
 returns : tie.Need-returns
 unfolding outline-of

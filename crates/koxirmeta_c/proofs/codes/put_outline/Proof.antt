@@ -1,7 +1,7 @@
 -- `put_outline` meets its contract: the start, then the sides. Assumes nothing.
 use borrow.Author.Needs.{needs}
-use Rattle.koxirmeta_c.proofs.outlines.put_outline.Statement.{statement}
-use Rattle.koxirmeta_c.proofs.outlines.put_outline.Tie as tie
+use Rattle.koxirmeta_c.proofs.codes.put_outline.Statement.{statement}
+use Rattle.koxirmeta_c.proofs.codes.put_outline.Tie as tie
 
 returns : tie.Need-returns
 returns c = rw (c .before .before .before .before .before .put-start .ensures, c .before .before .put-sides .ensures)

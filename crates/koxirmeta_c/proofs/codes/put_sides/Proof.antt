@@ -4,8 +4,8 @@ use lib.ListN.{length-set}
 use borrow.Author.Needs.{needs}
 use Rattle.koxirmeta_c.specs.Outlines.{sides-of}
 use Rattle.koxirmeta_c.proofs.Stores.{written}
-use Rattle.koxirmeta_c.proofs.outlines.put_sides.Statement.{statement}
-use Rattle.koxirmeta_c.proofs.outlines.put_sides.Tie as tie
+use Rattle.koxirmeta_c.proofs.codes.put_sides.Statement.{statement}
+use Rattle.koxirmeta_c.proofs.codes.put_sides.Tie as tie
 
 returns : tie.Need-returns
 unfolding sides-of

@@ -6,8 +6,8 @@ use mir.Facts.{toZ-ofZ}
 use Rattle.integers.proofs.Range.{signs}
 use Rattle.koxirmeta_c.specs.Outlines.{start-of}
 use Rattle.koxirmeta_c.proofs.Stores.{written}
-use Rattle.koxirmeta_c.proofs.outlines.put_start.Statement.{statement}
-use Rattle.koxirmeta_c.proofs.outlines.put_start.Tie as tie
+use Rattle.koxirmeta_c.proofs.codes.put_start.Statement.{statement}
+use Rattle.koxirmeta_c.proofs.codes.put_start.Tie as tie
 
 fits-i : (c : tie.Start) → SFits w32 (c .args .o .i)
 fits-i c = search signs
