@@ -9,7 +9,8 @@ use Rattle.octagon.specs.Outcome.{accepted}
 use Rattle.octagon.proofs.Outcomes.{accepted-same, accepted-not-refused}
 use Rattle.sheet.specs.declared.Record.{Record}
 use Rattle.sheet.specs.Answers.{record-of}
-use Rattle.sheet.specs.Checking.{fetched}
+use Rattle.sheet.specs.Checking.{read}
+use Rattle.sheet.proofs.Checks.{read-checked}
 use Rattle.report.specs.Listing.{plots, rows-of, total}
 use Rattle.report.proofs.Writing.{put-length, put-nothing, Left, left-all}
 use Rattle.report.proofs.Plots.{plot, length-plots, fetched-plot, total-most, rest, row-room, row-more, total-more, rest-end, total-end}
@@ -26,7 +27,7 @@ abbrev μ-loop : tie.MeasureT-loop
 loop-holds : tie.Need-loop-holds Inv-loop μ-loop
 loop-holds c = let a = c .before .before .args in (omega arith, left-all (a .text .now) (a .at) _ (c .before .before .pre .1), omega arith)
 
--- the plots, and the record that is fetched in a turn
+-- the plots, and the record that is read in a turn
 abbrev rs : tie.At-loop Inv-loop μ-loop → List Record
 rs c = let a = c .before .before .before .args in plots (a .sheet .now) (a .len) (a .c)
 
@@ -34,16 +35,20 @@ many : (c : tie.At-loop Inv-loop μ-loop) → length (rs c) ≡ c .before .befor
 many c = let a = c .before .before .before .args in length-plots (a .sheet .now) (a .len) (a .c)
 
 answer : (c : tie.In-loop Inv-loop μ-loop) → let a = c .before .before .before .before .args in
-    fetched (a .sheet .now) (a .len) (c .before .loop .k) ≡ accepted (plot (rs (c .before)) (c .before .loop .k))
-answer c = let e = c .before .before .before .before in fetched-plot (e .args .sheet .now) (e .args .len) (e .args .c) (c .before .loop .k) (e .pre .0) (c .loop-test .taken)
+    read (a .sheet .now) (a .len) (a .c) (c .before .loop .k) ≡ accepted (plot (rs (c .before)) (c .before .loop .k))
+answer c =
+    let e = c .before .before .before .before in
+    let a = e .args in
+    let k = c .before .loop .k in
+    read-checked (a .sheet .now) (a .len) (a .c) k (e .pre .0) ∙ fetched-plot (a .sheet .now) (a .len) (a .c) k (e .pre .0) (c .loop-test .taken)
 
 -- no record of a checked sheet is refused
 not-refused : (c : tie.After-enum-told Inv-loop μ-loop) → ⊥
 not-refused c =
-    accepted-not-refused (sym (answer (c .before .before .before)) ∙ sym (c .before .before .fetch .ensures) ∙ ap record-of (c .enum-told .given .1))
+    accepted-not-refused (sym (answer (c .before .before .before)) ∙ sym (c .before .before .read .ensures) ∙ ap record-of (c .enum-told .given .1))
 
 is-plot : (c : tie.After-r Inv-loop μ-loop) → c .r .given .0 .0 ≡ plot (rs (c .before .before .before .before)) (c .before .before .before .before .loop .k)
-is-plot c = accepted-same (sym (ap record-of (c .r .given .1)) ∙ c .before .before .fetch .ensures ∙ answer (c .before .before .before))
+is-plot c = accepted-same (sym (ap record-of (c .r .given .1)) ∙ c .before .before .read .ensures ∙ answer (c .before .before .before))
 
 put-row-requires : tie.Need-put-row-requires Inv-loop μ-loop
 put-row-requires c κs =
