@@ -8,7 +8,7 @@ use Rattle.octagon.specs.Outcome.{accepted}
 use Rattle.octagon.specs.Cells.{limit}
 use Rattle.octagon.specs.NormalForm.{even-bound, odd-bound, tight-even, tight-odd, normal-form, has-cell, is-on-map, placed, normalised}
 use Rattle.cell_count.specs.Count.{sum, one, at, row, count, inside}
-use Rattle.cell_count.specs.Area.{triangle, rectangle, corners, area, cell-count}
+use Rattle.cell_count.specs.Area.{triangle, rectangle, cuts, area, cell-count}
 use Rattle.cell_count.proofs.Counted.{count-means}
 
 -- three cells by two, from (0, 0)
@@ -20,11 +20,11 @@ abbrev spread : Octagon
 spread = record { c0 = pos 1; c1 = pos 3; c2 = pos 3; c3 = pos 4; c4 = pos 2; c5 = pos 2; c6 = pos 1; c7 = pos 1 }
 
 pub block-answer : cell-count block ≡ accepted 6
-unfolding cell-count area rectangle corners triangle normalised placed is-on-map has-cell normal-form tight-odd tight-even odd-bound even-bound minℤ halfℤ
+unfolding cell-count area rectangle cuts triangle normalised placed is-on-map has-cell normal-form tight-odd tight-even odd-bound even-bound minℤ halfℤ
 block-answer = refl
 
 pub spread-answer : cell-count spread ≡ accepted 16
-unfolding cell-count area rectangle corners triangle normalised placed is-on-map has-cell normal-form tight-odd tight-even odd-bound even-bound minℤ halfℤ
+unfolding cell-count area rectangle cuts triangle normalised placed is-on-map has-cell normal-form tight-odd tight-even odd-bound even-bound minℤ halfℤ
 spread-answer = refl
 
 -- so these are the numbers of cells on the map

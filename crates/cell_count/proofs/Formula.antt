@@ -11,7 +11,7 @@ use Rattle.octagon.specs.NormalForm.{odd-side}
 use Rattle.octagon.proofs.Within.{Within, Normal, within, cell-in}
 use Rattle.octagon.proofs.Sides.{odd-is}
 use Rattle.cell_count.specs.Count.{one, at, row, count, inside}
-use Rattle.cell_count.specs.Area.{extent, rectangle, corners}
+use Rattle.cell_count.specs.Area.{extent, rectangle, cuts}
 use Rattle.cell_count.proofs.Sums.{sum-zero, sum-window}
 use Rattle.cell_count.proofs.Counts.{at-parts}
 use Rattle.cell_count.proofs.Inside.{inside-is, outside}
@@ -121,6 +121,6 @@ plan-is r c n o = record {
 }
 
 -- the octagon's cells with those of the corners are the rectangle's
-pub cells-and-corners : (r : ℕ) (c : Octagon) → Normal c → Fits r c → count r (inside c) + corners c ≡ rectangle c
-unfolding rectangle corners
+pub cells-and-corners : (r : ℕ) (c : Octagon) → Normal c → Fits r c → count r (inside c) + cuts c ≡ rectangle c
+unfolding rectangle cuts
 cells-and-corners r c n o = planned r c n o (plan r c) (plan-is r c n o)

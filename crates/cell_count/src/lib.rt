@@ -21,7 +21,7 @@ pub enum Count {
 
 // A length on the map as an unsigned number.
 fn unsigned(z: i64) -> u64
-    requires { ⌜ spec.Length z ⌝ }
+    requires { ⌜ spec.MapLength z ⌝ }
     ensures { λ r. ⌜ r ≡ natAbs z ⌝ }
 {
     z as u64
@@ -29,7 +29,7 @@ fn unsigned(z: i64) -> u64
 
 // The number of columns, or of rows, from one bound to the opposite one.
 fn extent(low: i32, high: i32) -> u64
-    requires { ⌜ spec.Length (low +ℤ high +ℤ pos 1) ⌝ }
+    requires { ⌜ spec.MapLength (low +ℤ high +ℤ pos 1) ⌝ }
     ensures { λ r. ⌜ r ≡ spec.extent low high ⌝ }
 {
     unsigned((low as i64) + (high as i64) + 1)
@@ -53,8 +53,8 @@ fn triangle(n: u64) -> u64
 
 // The cells that a diagonal side cuts off a corner of the rectangle.
 fn corner(before: i32, own: i32, after: i32) -> u64
-    requires { ⌜ spec.Length («odd-side» before own after) ⌝ }
-    ensures { λ r. ⌜ r ≡ spec.corner before own after ⌝ }
+    requires { ⌜ spec.MapLength («odd-side» before own after) ⌝ }
+    ensures { λ r. ⌜ r ≡ spec.cut before own after ⌝ }
 {
     triangle(unsigned((before as i64) + (after as i64) - (own as i64)))
 }
@@ -62,7 +62,7 @@ fn corner(before: i32, own: i32, after: i32) -> u64
 // The cells of all four corners.
 fn corners(a: Octagon) -> u64
     requires { ⌜ normalised a ≡ accepted a ⌝ }
-    ensures { λ r. ⌜ r ≡ spec.corners a ⌝ }
+    ensures { λ r. ⌜ r ≡ spec.cuts a ⌝ }
 {
     let c0 = a.c0;
     let c1 = a.c1;

@@ -7,7 +7,7 @@ use Rattle.outline.specs.declared.Outline.{Outline}
 use Rattle.outline.specs.Closing.{Closes}
 use Rattle.decomposition.specs.declared.Counts.{Counts}
 use Rattle.decomposition.specs.Rule.{Chosen, Rule}
-use Rattle.decomposition.specs.Splitting.{rest, with-rows, first-counts, joined, counts}
+use Rattle.decomposition.specs.Splitting.{rest, with-rows, first-counts, with-k13, counts}
 use Rattle.decomposition.proofs.Sides.{SameSides, made, makes-same, same-makes}
 use Rattle.decomposition.proofs.Rests.{Rows, leaves, half, rest-closes, with, fitting, forced}
 use Rattle.decomposition.proofs.LastStep.{last-joined, joined-made}
@@ -117,10 +117,10 @@ pub one-choice : (o : Outline) → Closes o → (k : Counts) → Rule o k ↔ (k
 unfolding counts
 one-choice o c k = (to, from)
   where
-    to : Rule o k → k ≡ joined (first-counts o)
-    to r = last-joined (r .before) k .0 (r .last) ∙ ap joined (unique o (r .before) (r .chosen))
+    to : Rule o k → k ≡ with-k13 (first-counts o)
+    to r = last-joined (r .before) k .0 (r .last) ∙ ap with-k13 (unique o (r .before) (r .chosen))
 
-    from : k ≡ joined (first-counts o) → Rule o k
+    from : k ≡ with-k13 (first-counts o) → Rule o k
     from e = record { before = first-counts o; chosen = chosen o c; last = last-joined (first-counts o) k .1 e }
 
 -- after the last step too the sides are all there

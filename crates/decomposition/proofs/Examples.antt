@@ -10,7 +10,7 @@ use Rattle.outline.specs.Walk.{vertex}
 use Rattle.outline.specs.Tracing.{bounds-at, drawn}
 use Rattle.outline.specs.Outlining.{outline-of, outlined}
 use Rattle.decomposition.specs.declared.Split.{Split}
-use Rattle.decomposition.specs.Splitting.{rest, triangles-of, with-rows, first-counts, is-crossed, joined, counts, split-of, decomposition}
+use Rattle.decomposition.specs.Splitting.{rest, triangles-of, with-rows, first-counts, is-crossed, with-k13, counts, split-of, decomposition}
 
 -- the outline from (0, 0) with eight sides
 abbrev with-sides : ℕ → ℕ → ℕ → ℕ → ℕ → ℕ → ℕ → ℕ → Outline
@@ -25,10 +25,10 @@ split a b c d e f g h p q r s t = record {
 
 -- "Sides 0 2 0 2 0 2 0 2 split as one each of K2, K4, K13."
 pub crossed-rows : decomposition (drawn (with-sides 0 2 0 2 0 2 0 2)) ≡ accepted (split 0 1 0 1 0 0 0 0 0 0 0 0 1)
-unfolding decomposition split-of counts joined is-crossed first-counts with-rows triangles-of rest outlined outline-of sides normalised placed is-on-map has-cell normal-form tight-odd tight-even odd-bound even-bound minℤ halfℤ drawn bounds-at vertex
+unfolding decomposition split-of counts with-k13 is-crossed first-counts with-rows triangles-of rest outlined outline-of sides normalised placed is-on-map has-cell normal-form tight-odd tight-even odd-bound even-bound minℤ halfℤ drawn bounds-at vertex
 crossed-rows = refl
 
 -- "Sides 3 0 1 1 0 2 0 0 split as one K5 and one K9."
 pub two-triangles : decomposition (drawn (with-sides 3 0 1 1 0 2 0 0)) ≡ accepted (split 0 0 0 0 1 0 0 0 1 0 0 0 0)
-unfolding decomposition split-of counts joined is-crossed first-counts with-rows triangles-of rest outlined outline-of sides normalised placed is-on-map has-cell normal-form tight-odd tight-even odd-bound even-bound minℤ halfℤ drawn bounds-at vertex
+unfolding decomposition split-of counts with-k13 is-crossed first-counts with-rows triangles-of rest outlined outline-of sides normalised placed is-on-map has-cell normal-form tight-odd tight-even odd-bound even-bound minℤ halfℤ drawn bounds-at vertex
 two-triangles = refl

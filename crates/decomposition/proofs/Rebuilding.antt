@@ -18,7 +18,7 @@ use Rattle.decomposition.specs.declared.Start.{Start}
 use Rattle.decomposition.specs.declared.Counts.{Counts}
 use Rattle.decomposition.specs.Pieces.{shown, pieces, piece-of, listed, Only, DilatedByEach, Rebuilt}
 use Rattle.decomposition.specs.Rule.{others, Crossed}
-use Rattle.decomposition.specs.Splitting.{first-counts, is-crossed, joined, counts, split-of}
+use Rattle.decomposition.specs.Splitting.{first-counts, is-crossed, with-k13, counts, split-of}
 use Rattle.decomposition.proofs.Sides.{SameSides, made}
 use Rattle.decomposition.proofs.Choice.{counts-made}
 use Rattle.decomposition.proofs.LastStep.{crossed-test}
@@ -154,8 +154,8 @@ module _ (k : Counts) (s : Start) where
 
 -- ---- the counts that are computed
 
-joined-whole : (k : Counts) → ¬ (Alone (joined k))
-unfolding joined
+joined-whole : (k : Counts) → ¬ (Alone (with-k13 k))
+unfolding with-k13
 joined-whole k = cases (is-crossed k) (λ t. rw t (λ a. omega arith)) (λ f. rw f (λ a. true-is-not-false (sym (crossed-test k (crossed a)) ∙ f)))
   where
     crossed : Alone k → Crossed k

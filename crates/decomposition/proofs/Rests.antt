@@ -8,7 +8,7 @@ use Rattle.outline.specs.declared.Outline.{Outline}
 use Rattle.outline.specs.Closing.{Closes}
 use Rattle.decomposition.specs.declared.Counts.{Counts}
 use Rattle.decomposition.specs.declared.counting.Triangles.{Triangles}
-use Rattle.decomposition.specs.Rule.{count, Pair, case-i, case-ii, case-iii, case-iv, case-v, case-vi, case-vii, case-viii, triangles, TwoKinds}
+use Rattle.decomposition.specs.Rule.{count-of-kind, Pair, case-i, case-ii, case-iii, case-iv, case-v, case-vi, case-vii, case-viii, triangles, TwoKinds}
 use Rattle.decomposition.specs.Splitting.{rest, triangles-of}
 use Rattle.decomposition.proofs.Sides.{SameSides, made}
 
@@ -105,7 +105,7 @@ fitting o r m l h c =
     (λ h3. fit case-vii (only 0 0 (r .n6) 0 0 (r .n7) 0 0) (omega arith) (omega arith))))
     (λ h1. fit case-v (only 0 0 0 (r .n4) 0 0 0 (r .n5)) (omega arith) (omega arith)))
   where
-    fit : {p q : ℕ} → Pair p q → (t : Triangles) → triangles (with m t) ≡ count (with m t) p + count (with m t) q → SameSides (made (with m t)) o → Fitting o m
+    fit : {p q : ℕ} → Pair p q → (t : Triangles) → triangles (with m t) ≡ count-of-kind (with m t) p + count-of-kind (with m t) q → SameSides (made (with m t)) o → Fitting o m
     fit {p} {q} c t n s = record { kinds = t; two-kinds = record { p = p; q = q; pair = c; no-others = n }; all-sides = s }
 
 -- ---- and no others do
@@ -124,7 +124,7 @@ pub forced : (o r : Outline) (k : Counts) → Leaves o r k → k .k13 ≡ 0 → 
 unfolding triangles-of
 forced o r k l z s w = go (w .pair) (w .no-others)
   where
-    go : {p q : ℕ} → Pair p q → triangles k ≡ count k p + count k q → SameTriangles k (triangles-of r)
+    go : {p q : ℕ} → Pair p q → triangles k ≡ count-of-kind k p + count-of-kind k q → SameTriangles k (triangles-of r)
     go case-i h = omega arith
     go case-ii h = omega arith
     go case-iii h = omega arith

@@ -10,8 +10,8 @@ use Rattle.decomposition.specs.declared.Counts.{Counts}
 use Rattle.decomposition.specs.Pieces.{pieces, listed}
 
 -- the count of Kp
-abbrev pub count : Counts → ℕ → ℕ
-count k p = getD (listed k) (p - 1) 0
+abbrev pub count-of-kind : Counts → ℕ → ℕ
+count-of-kind k p = getD (listed k) (p - 1) 0
 
 -- the length of side m that counted pieces have together
 abbrev pub together : List ℕ → List Outline → ℕ → ℕ
@@ -41,7 +41,7 @@ pub record TwoKinds (k : Counts) : Type 0 where
   pub p : ℕ
   pub q : ℕ
   pub pair : Pair p q
-  pub no-others : triangles k ≡ count k p + count k q
+  pub no-others : triangles k ≡ count-of-kind k p + count-of-kind k q
 
 -- ---- "First k1 to k4 are the smaller of .. . The rest is made of .."
 

@@ -68,12 +68,12 @@ first-counts o = with-rows o (triangles-of (rest o))
 unfoldable pub is-crossed : Counts → Bool
 is-crossed k = ltb 0 (k .k2) && ltb 0 (k .k4) && eqb (others k) 0
 
-unfoldable pub joined : Counts → Counts
-joined k = cond (is-crossed k) (exchanged k) k
+unfoldable pub with-k13 : Counts → Counts
+with-k13 k = cond (is-crossed k) (exchanged k) k
 
 -- the counts of an outline
 unfoldable pub counts : Outline → Counts
-counts o = joined (first-counts o)
+counts o = with-k13 (first-counts o)
 
 unfoldable pub split-of : Outline → Split
 split-of o = record { start = record { i = o .i; j = o .j }; counts = counts o }

@@ -132,7 +132,7 @@ fn is_crossed(k: Counts) -> bool
 
 // The last step: where K2 and K4 are there and nothing else is, one of each becomes one K13.
 fn joined(k: Counts) -> Counts
-    ensures { λ r. ⌜ r ≡ splitting.joined k ⌝ }
+    ensures { λ r. ⌜ r ≡ splitting.with-k13 k ⌝ }
 {
     if is_crossed(k) {
         return Counts {

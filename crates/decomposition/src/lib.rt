@@ -8,7 +8,7 @@ ghost use Rattle.decomposition.specs.Pieces as pieces;
 ghost use Rattle.decomposition.specs.Splitting as splitting;
 use octagon::Octagon;
 use outline::Outline;
-use outline::Traced;
+use outline::Outlined;
 use outline::to_outline;
 
 mod counting;
@@ -108,7 +108,7 @@ pub fn decompose(o: Octagon) -> Decomposed
     ensures { λ r. ⌜ splitting.outcome r ≡ splitting.decomposition o ⌝ }
 {
     match to_outline(o) {
-        Traced::Outline(t) => Decomposed::Split(split_of(t)),
-        Traced::Refused(n) => Decomposed::Refused(n),
+        Outlined::Outline(t) => Decomposed::Split(split_of(t)),
+        Outlined::Refused(n) => Decomposed::Refused(n),
     }
 }

@@ -13,15 +13,15 @@ use Rattle.outline.specs.declared.place.Place.{Place}
 use Rattle.outline.specs.Tracing.{traced}
 use Rattle.outline.specs.Outlining.{outlined}
 use Rattle.outline.specs.Places.{located}
-use Rattle.koxirmeta_c.specs.Calls.{fitted, eight, octagon-of}
+use Rattle.koxirmeta_c.specs.Calls.{fitted, is-eight, octagon-in}
 
 -- the slice has two places: those of a start, or of a place in metres
-abbrev pub two : {A : Type 0} → List A → Bool
-two s = eqb (length s) 2
+abbrev pub is-pair : {A : Type 0} → List A → Bool
+is-pair s = eqb (length s) 2
 
 -- the outline of a start and eight sides
-unfoldable pub outline-of : List ℤ → List ℕ → Outline
-outline-of s n = record {
+unfoldable pub outline-in : List ℤ → List ℕ → Outline
+outline-in s n = record {
   i = getD s 0 (pos 0);
   j = getD s 1 (pos 0);
   n0 = getD n 0 0;
@@ -49,11 +49,11 @@ unfoldable pub metres-of : Place → List Float
 metres-of p = p .east ∷ p .north ∷ []
 
 -- the calls
-unfoldable pub drawn : List ℤ → List ℕ → List ℤ → Outcome Octagon
-drawn start sides out = fitted (two start && eight sides && eight out) (traced (outline-of start sides))
+unfoldable pub tracing : List ℤ → List ℕ → List ℤ → Outcome Octagon
+tracing start sides out = fitted (is-pair start && is-eight sides && is-eight out) (traced (outline-in start sides))
 
 unfoldable pub outlining : List ℤ → List ℤ → List ℕ → Outcome Outline
-outlining s start sides = fitted (eight s && two start && eight sides) (outlined (octagon-of s))
+outlining s start sides = fitted (is-eight s && is-pair start && is-eight sides) (outlined (octagon-in s))
 
 unfoldable pub locating : List ℤ → ℕ → List Float → Outcome Place
-locating s k place = fitted (eight s && two place) (located (octagon-of s) k)
+locating s k place = fitted (is-eight s && is-pair place) (located (octagon-in s) k)

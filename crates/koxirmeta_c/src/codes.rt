@@ -7,7 +7,7 @@ use outline::Outline;
 // The outline of a start and eight sides.
 pub fn outline_of(start: &[i32], sides: &[u32]) -> Outline
     requires { ⌜ (length (now start) ≡ 2) × (length (now sides) ≡ 8) ⌝ }
-    ensures { λ r. ⌜ r ≡ outlines.outline-of (now (start .entry)) (now (sides .entry)) ⌝ }
+    ensures { λ r. ⌜ r ≡ outlines.outline-in (now (start .entry)) (now (sides .entry)) ⌝ }
 {
     Outline {
         i: start[0],

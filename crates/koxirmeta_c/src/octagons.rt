@@ -10,7 +10,7 @@ use octagon::Octagon;
 // The octagon of eight bounds.
 pub fn octagon_of(s: &[i32]) -> Octagon
     requires { ⌜ length (now s) ≡ 8 ⌝ }
-    ensures { λ r. ⌜ r ≡ calls.octagon-of (now (s .entry)) ⌝ }
+    ensures { λ r. ⌜ r ≡ calls.octagon-in (now (s .entry)) ⌝ }
 {
     Octagon {
         c0: s[0],

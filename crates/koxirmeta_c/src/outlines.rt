@@ -10,7 +10,7 @@ use crate::codes::put_outline;
 use crate::octagons::give;
 use crate::octagons::octagon_of;
 use outline::Located;
-use outline::Traced;
+use outline::Outlined;
 use outline::place::Place;
 use outline::to_octagon;
 use outline::to_outline;
@@ -28,7 +28,7 @@ fn put_place(place: &mut [f64], p: Place)
 // The octagon of an outline.
 #[no_mangle]
 pub extern "C" fn kx_to_octagon(start: &[i32], sides: &[u32], out: &mut [i32]) -> u32
-    ensures { λ r. ⌜ calls.Hands (outlines.drawn (now (start .entry)) (now (sides .entry)) (now (out .entry))) calls.bounds-of (now (out .entry)) (now (out .exit)) r ⌝ }
+    ensures { λ r. ⌜ calls.Hands (outlines.tracing (now (start .entry)) (now (sides .entry)) (now (out .entry))) calls.bounds-of (now (out .entry)) (now (out .exit)) r ⌝ }
 {
     if (start.len() == 2) & (sides.len() == 8) & (out.len() == 8) {
         return give(to_octagon(outline_of(start, sides)), out);
@@ -43,11 +43,11 @@ pub extern "C" fn kx_to_outline(bounds: &[i32], start: &mut [i32], sides: &mut [
 {
     if (bounds.len() == 8) & (start.len() == 2) & (sides.len() == 8) {
         match to_outline(octagon_of(bounds)) {
-            Traced::Outline(o) => {
+            Outlined::Outline(o) => {
                 put_outline(start, sides, o);
                 return ACCEPTED;
             }
-            Traced::Refused(k) => return k,
+            Outlined::Refused(k) => return k,
         }
     }
     WRONG_LENGTH

@@ -1,7 +1,7 @@
 // Sheets in lent buffers: check, fetch, start and insert.
 ghost use mathlib.Core.Path.{_≡_};
 ghost use lib.ListN.{length};
-ghost use Rattle.sheet.specs.Answers.{«record-of»};
+ghost use Rattle.sheet.specs.Answers.{«record-outcome»};
 ghost use Rattle.sheet.specs.Checking.{checked};
 ghost use Rattle.sheet.specs.Writing.{started, «after-start»};
 ghost use Rattle.koxirmeta_c.specs.Calls as calls;
@@ -32,7 +32,7 @@ pub extern "C" fn kx_sheet_check(sheet: &[u8], len: usize, count: &mut u32) -> u
 // Hands a record over: its plot number, start and sides.
 fn give_record(f: Fetched, number: &mut u32, start: &mut [i32], sides: &mut [u32]) -> u32
     requires { ⌜ (length (now start) ≡ 2) × (length (now sides) ≡ 8) ⌝ }
-    ensures { λ r. ⌜ calls.Hands («record-of» f) sheets.plot-of (now (number .entry), now (start .entry), now (sides .entry)) (now (number .exit), now (start .exit), now (sides .exit)) r ⌝ }
+    ensures { λ r. ⌜ calls.Hands («record-outcome» f) sheets.plot-of (now (number .entry), now (start .entry), now (sides .entry)) (now (number .exit), now (start .exit), now (sides .exit)) r ⌝ }
 {
     match f {
         Fetched::Record(r) => {

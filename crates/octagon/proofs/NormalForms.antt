@@ -25,6 +25,13 @@ accepted-means c a = go (normalising c)
     go (is-empty h) q = absurd (accepted-not-refused (sym q))
     go (is-off n h) q = absurd (accepted-not-refused (sym q))
 
+-- its bounds as the proofs use them
+pub accepted-normal : (c a : Octagon) → normalised c ≡ accepted a → Normal a
+accepted-normal c a e = reached-normal a (accepted-means c a e .is-normalised .reached)
+
+pub accepted-near : (c a : Octagon) → normalised c ≡ accepted a → Near a
+accepted-near c a e = cells-near a (accepted-normal c a e) (accepted-means c a e .on-the-map)
+
 -- and that is so for all bounds that hold a cell and whose cells are on the map
 pub accepted-when : (c : Octagon) → Some (In c) → In c ⊆ OnMap → (a : Octagon) × (normalised c ≡ accepted a)
 accepted-when c s h = go (normalising c) refl
@@ -86,7 +93,4 @@ normal-answer a n m =
 
 -- so normalising an accepted answer gives it back
 pub normalised-again : (c a : Octagon) → normalised c ≡ accepted a → normalised a ≡ accepted a
-normalised-again c a q =
-    let t = accepted-means c a q in
-    let n = reached-normal a (t .is-normalised .reached) in
-    normal-answer a n (cells-near a n (t .on-the-map))
+normalised-again c a q = normal-answer a (accepted-normal c a q) (accepted-near c a q)

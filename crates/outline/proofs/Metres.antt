@@ -25,7 +25,7 @@ use Rattle.outline.specs.declared.Outline.{Outline}
 use Rattle.outline.specs.declared.place.Place.{Place}
 use Rattle.outline.specs.Walk.{vertex}
 use Rattle.outline.specs.Outlining.{outlined}
-use Rattle.outline.specs.Places.{Exactly, Fitting, over, place-of, no-vertex, corner-place, located}
+use Rattle.outline.specs.Places.{Exactly, HeldCell, over, place-of, no-vertex, corner-place, located}
 use Rattle.outline.proofs.Tracings as tracings
 use Rattle.outline.proofs.Corners.{corners}
 use Rattle.outline.proofs.RoundTrips.{outline-octagon, outlined-refusals}
@@ -43,7 +43,7 @@ fits {x} {y} m =
     let g = on-grid m in
     (room-fits32 (room-near 32 limit x tt (g .east) (omega arith)), room-fits32 (room-near 32 limit y tt (g .north) (omega arith)))
 
-pub corner-fits : (c : Octagon) (o : Outline) → outlined c ≡ accepted o → (k : ℕ) → k < 8 → Fitting (vertex o k)
+pub corner-fits : (c : Octagon) (o : Outline) → outlined c ≡ accepted o → (k : ℕ) → k < 8 → HeldCell (vertex o k)
 corner-fits c o q k h = let f = fits (corner-on-map c o q k h) in record { fits-x = f .0; fits-y = f .1 }
 
 -- ---- exact quarters

@@ -52,6 +52,6 @@ outcome (At p) = accepted p
 outcome (Refused n) = refused n
 
 -- a cell whose coordinates fit 32 bits
-pub record Fitting (v : Cell) : Type 0 where
+pub record HeldCell (v : Cell) : Type 0 where
   pub fits-x : SFits w32 (v .x)
   pub fits-y : SFits w32 (v .y)

@@ -11,7 +11,7 @@ use crate::walk::vertex;
 
 // Corner k in metres, where the corners fit 32 bits. Refuses a number above 7.
 pub fn corner_place(o: Outline, k: u32) -> Located
-    requires { ⌜ ((n : ℕ) → n < 8 → places.Fitting (walk.vertex o n)) ⌝ }
+    requires { ⌜ ((n : ℕ) → n < 8 → places.HeldCell (walk.vertex o n)) ⌝ }
     ensures { λ r. ⌜ places.outcome r ≡ places.corner-place o k ⌝ }
 {
     if k > 7 {

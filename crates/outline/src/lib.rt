@@ -33,7 +33,7 @@ pub struct Outline {
 }
 
 // An outline, or the number of the refusal.
-pub enum Traced {
+pub enum Outlined {
     Outline(Outline),
     Refused(u32),
 }
@@ -72,12 +72,12 @@ pub fn to_octagon(o: Outline) -> Answer
 }
 
 // The outline of any eight bounds: that of their normal form. Refuses what `normalise` refuses.
-pub fn to_outline(o: Octagon) -> Traced
+pub fn to_outline(o: Octagon) -> Outlined
     ensures { λ r. ⌜ outcome r ≡ outlined o ⌝ }
 {
     match octagon::normalise(o) {
-        Answer::Octagon(a) => Traced::Outline(sides::outline_of(a)),
-        Answer::Refused(n) => Traced::Refused(n),
+        Answer::Octagon(a) => Outlined::Outline(sides::outline_of(a)),
+        Answer::Refused(n) => Outlined::Refused(n),
     }
 }
 
@@ -86,7 +86,7 @@ pub fn vertex_place(o: Octagon, k: u32) -> Located
     ensures { λ r. ⌜ «place-outcome» r ≡ located o k ⌝ }
 {
     match to_outline(o) {
-        Traced::Outline(t) => corner::corner_place(t, k),
-        Traced::Refused(n) => Located::Refused(n),
+        Outlined::Outline(t) => corner::corner_place(t, k),
+        Outlined::Refused(n) => Located::Refused(n),
     }
 }

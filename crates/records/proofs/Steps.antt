@@ -11,7 +11,7 @@ use lib.Seq.{drop-cons, drop-drop, take-suc-set, append-snoc}
 use lib.Dec.{leb}
 use borrow.Author.Tests.{leb-true}
 use Rattle.integers.proofs.Tests.{both-true}
-use Rattle.records.specs.Numbers.{number, bytes, total, narrow, packed, unpacked}
+use Rattle.records.specs.Numbers.{number, bytes, total-width, narrow, packed, unpacked}
 use Rattle.records.specs.Parts.{part, splice}
 use Rattle.records.proofs.Numbers.{number-suc, length-bytes}
 use Rattle.records.proofs.Fields.{length-packed}
@@ -56,7 +56,7 @@ put-more s at (suc n) v h k =
 -- ---- fields, one after the other
 
 -- the first field that is left, and the others
-pub total-more : (ws : List ℕ) (k : ℕ) → k < length ws → total (drop k ws) ≡ getD ws k 0 + total (drop (k + 1) ws)
+pub total-more : (ws : List ℕ) (k : ℕ) → k < length ws → total-width (drop k ws) ≡ getD ws k 0 + total-width (drop (k + 1) ws)
 total-more ws k h = rw (drop-cons ws k 0 h, add-one)
 
 pub narrow-more : (ws : List ℕ) (k : ℕ) → k < length ws → narrow (drop k ws) ≡ true → (getD ws k 0 ≤ 4) × (narrow (drop (k + 1) ws) ≡ true)
@@ -72,13 +72,13 @@ unpack-more s ws vs p k h l =
     (sym (append-snoc (take k vs) (number (part s p (getD ws k 0))) (unpacked (drop (suc k) ws) (drop (p + getD ws k 0) s))))
 
 -- the fields from the k-th on are still to be written from index p
-pub pack-more : (s ws vs : List ℕ) (p k : ℕ) → k < length ws → length vs ≡ length ws → p + total (drop k ws) ≤ length s
+pub pack-more : (s ws vs : List ℕ) (p k : ℕ) → k < length ws → length vs ≡ length ws → p + total-width (drop k ws) ≤ length s
     → splice (splice s p (bytes (getD ws k 0) (getD vs k 0))) (p + getD ws k 0) (packed (drop (k + 1) ws) (drop (k + 1) vs)) ≡ splice s p (packed (drop k ws) (drop k vs))
 pack-more s ws vs p k h e l =
     let w = getD ws k 0 in
     let a = bytes w (getD vs k 0) in
     let b = packed (drop (suc k) ws) (drop (suc k) vs) in
     let n : length a ≡ w = length-bytes w (getD vs k 0) in
-    let m : length b ≡ total (drop (suc k) ws) = length-packed (drop (suc k) ws) (drop (suc k) vs) (simp length-drop (omega arith)) in
-    let t : total (drop k ws) ≡ w + total (drop (suc k) ws) = rw (drop-cons ws k 0 h) in
+    let m : length b ≡ total-width (drop (suc k) ws) = length-packed (drop (suc k) ws) (drop (suc k) vs) (simp length-drop (omega arith)) in
+    let t : total-width (drop k ws) ≡ w + total-width (drop (suc k) ws) = rw (drop-cons ws k 0 h) in
     rw (drop-cons ws k 0 h, drop-cons vs k 0 (omega arith), add-one k) (ap (λ (x : ℕ). splice (splice s p a) (p + x) b) (sym n) ∙ splice-append s p a b (omega arith))

@@ -26,9 +26,9 @@ twos w (pos n) = n
 twos w (negsuc n) = 256 ^ w - suc n
 
 -- fields of these widths, in bytes: how long they are together, the numbers in them, and the bytes of numbers
-abbrev pub total : List ℕ → ℕ
-total [] = 0
-total (w ∷ ws) = w + total ws
+abbrev pub total-width : List ℕ → ℕ
+total-width [] = 0
+total-width (w ∷ ws) = w + total-width ws
 
 -- no field is wider than a number of 32 bits
 abbrev pub narrow : List ℕ → Bool

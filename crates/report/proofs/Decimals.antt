@@ -10,7 +10,7 @@ use lib.IntN.{ℤ, pos, negsuc, negℤ}
 use lib.ListN.{length, getD, length-append, List·getD-append}
 use borrow.Author.Tests.{lt-ltb, le-ltb, ltb-true, ltb-false, ne-eqb}
 use Rattle.integers.proofs.Tests.{cases}
-use Rattle.report.specs.Decimal.{digit, digits, decimal, read, value, minus, signed, integer}
+use Rattle.report.specs.Decimal.{digit, digits, decimal, value-after, value, minus, signed-decimal, integer}
 
 -- ---- one digit, and one digit more
 
@@ -51,14 +51,14 @@ by-digits P one more n = go n n (omega arith)
 
 -- ---- the number again
 
-read-last : (v : ℕ) (s : List ℕ) (b : ℕ) → read v (s ++ (b ∷ [])) ≡ read v s * 10 + (b - 48)
+read-last : (v : ℕ) (s : List ℕ) (b : ℕ) → value-after v (s ++ (b ∷ [])) ≡ value-after v s * 10 + (b - 48)
 read-last v [] b = refl
 read-last v (a ∷ s) b = read-last (v * 10 + (a - 48)) s b
 
 pub value-decimal : (n : ℕ) → value (decimal n) ≡ n
 unfolding value
 value-decimal =
-    by-digits (λ n. read 0 (decimal n) ≡ n)
+    by-digits (λ n. value-after 0 (decimal n) ≡ n)
     (λ n h. rw (decimal-one n h) (omega arith))
     (λ n h r. rw (decimal-more n h, read-last 0 (decimal (n / 10)) (digit (n % 10)), r) (omega arith))
 
@@ -107,7 +107,7 @@ length-decimal (suc k) n l h =
     next zero b h r = absurd (omega (arith, pow-zero 10))
     next (suc k) b h r = omega (arith, r (omega arith) (omega arith))
 
-read-below : (v : ℕ) {s : List ℕ} → Digits s → read v s < (v + 1) * 10 ^ length s
+read-below : (v : ℕ) {s : List ℕ} → Digits s → value-after v s < (v + 1) * 10 ^ length s
 read-below v none = omega (arith, pow-zero 10)
 read-below v (more {b = b} {s = s} l m r) =
     rw (pow-succ' 10 (length s), ← mul-assoc (v + 1) 10 (10 ^ length s))
@@ -116,7 +116,7 @@ read-below v (more {b = b} {s = s} l m r) =
 -- no digits that stand for n are fewer
 pub decimal-fewest : (s : List ℕ) → Digits s → 0 < length s → length (decimal (value s)) ≤ length s
 unfolding value
-decimal-fewest s d h = length-decimal (length s) (read 0 s) h (omega (arith, read-below 0 d))
+decimal-fewest s d h = length-decimal (length s) (value-after 0 s) h (omega (arith, read-below 0 d))
 
 -- ---- signed numbers
 
@@ -126,7 +126,7 @@ integer-unsigned none h = absurd (omega arith)
 integer-unsigned (more {b = b} {s = s} l m d) h = rw (ne-eqb b minus (λ e. omega (arith, e)), integer)
 
 -- the number again
-pub integer-signed : (z : ℤ) → integer (signed z) ≡ z
-unfolding signed integer
+pub integer-signed : (z : ℤ) → integer (signed-decimal z) ≡ z
+unfolding signed-decimal integer
 integer-signed (pos n) = integer-unsigned (decimal-digits n) (decimal-some n) ∙ ap pos (value-decimal n)
 integer-signed (negsuc n) = ap (λ (m : ℕ). negℤ (pos m)) (value-decimal (suc n))

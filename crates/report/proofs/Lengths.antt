@@ -21,9 +21,9 @@ use Rattle.sheet.proofs.RecordBytes.{decoded-at, field-below}
 use Rattle.sheet.proofs.Checks.{checked-known}
 use Rattle.sheet.proofs.CheckCases.{Faulty, wrong-number, open-outline, off-outline, later, Checking, wrong-size, unmarked, misplaced, faulty, right, checking}
 use Rattle.report.specs.Text.{ascii}
-use Rattle.report.specs.Decimal.{decimal, sign, signed}
+use Rattle.report.specs.Decimal.{decimal, sign, signed-decimal}
 use Rattle.report.specs.Lines.{spaced, line, heading-line, row-line, last-line, refused-line}
-use Rattle.report.specs.Listing.{cells, plots, row, rows-of, total, full, shown, listing, line-limit, text-limit}
+use Rattle.report.specs.Listing.{cell-number, plots, row-of, rows-of, total-cells, full, text-of, listing, line-limit, text-limit}
 use Rattle.report.proofs.Decimals.{length-decimal}
 use Rattle.report.proofs.Plots.{length-plots, cells-most, total-most}
 
@@ -44,8 +44,8 @@ line-length w {ws} h s = omega (arith, length-append w (spaced ws), spaced-lengt
 number-short : (n : ℕ) → n < 2 ^ 64 → length (decimal n) ≤ 20
 number-short n h = length-decimal 20 n (omega arith) (omega arith)
 
-signed-short : (z : ℤ) → natAbs z < 2 ^ 63 → length (signed z) ≤ 20
-unfolding signed
+signed-short : (z : ℤ) → natAbs z < 2 ^ 63 → length (signed-decimal z) ≤ 20
+unfolding signed-decimal
 signed-short z h = omega (arith, length-append (sign z) (decimal (natAbs z)), one z, length-decimal 19 (natAbs z) (omega arith) (omega arith))
   where
     one : (z : ℤ) → length (sign z) ≤ 1
@@ -56,8 +56,8 @@ signed-short z h = omega (arith, length-append (sign z) (decimal (natAbs z)), on
 numbers : (n : ℕ) {ws : List (List ℕ)} → n < 2 ^ 64 → Short ws → Short (decimal n ∷ ws)
 numbers n h s = more {w = decimal n} (number-short n h) s
 
-integers : (z : ℤ) {ws : List (List ℕ)} → natAbs z < 2 ^ 63 → Short ws → Short (signed z ∷ ws)
-integers z h s = more {w = signed z} (signed-short z h) s
+integers : (z : ℤ) {ws : List (List ℕ)} → natAbs z < 2 ^ 63 → Short ws → Short (signed-decimal z ∷ ws)
+integers z h s = more {w = signed-decimal z} (signed-short z h) s
 
 -- ---- a record that was read from bytes
 
@@ -105,15 +105,15 @@ small s at b =
       n7 = omega (arith, below 10 (omega arith));
     }
 
-row-length : (r : Record) → Small r → length (row r) ≤ line-limit
-unfolding row row-line
+row-length : (r : Record) → Small r → length (row-of r) ≤ line-limit
+unfolding row-of row-line
 row-length r h =
     let o = r .outline in
     line-length (decimal (r .number)) (number-short (r .number) (h .number))
     (integers (o .i) (h .i) (integers (o .j) (h .j)
     (numbers (o .n0) (h .n0) (numbers (o .n1) (h .n1) (numbers (o .n2) (h .n2) (numbers (o .n3) (h .n3)
     (numbers (o .n4) (h .n4) (numbers (o .n5) (h .n5) (numbers (o .n6) (h .n6) (numbers (o .n7) (h .n7)
-    (numbers (cells o) (omega (arith, cells-most o)) none)))))))))))
+    (numbers (cell-number o) (omega (arith, cells-most o)) none)))))))))))
 
 rows-length : (s : List ℕ) (at n : ℕ) → Bytes s → length (rows-of (map decoded (records record-length s at n))) ≤ line-limit * n
 rows-length s at zero b = omega arith
@@ -121,7 +121,7 @@ rows-length s at (suc n) b =
     let r = decoded (part s at record-length) in
     omega (
       arith,
-      length-append (row r) (rows-of (map decoded (records record-length s (at + record-length) n))),
+      length-append (row-of r) (rows-of (map decoded (records record-length s (at + record-length) n))),
       row-length r (small s at b),
       rows-length s (at + record-length) n b,
     )
@@ -159,16 +159,16 @@ full-length s len c b e =
     let n = length-plots s len c in
     omega (
       arith,
-      length-append heading-line (rows-of rs ++ last-line (length rs) (total rs)),
-      length-append (rows-of rs) (last-line (length rs) (total rs)),
+      length-append heading-line (rows-of rs ++ last-line (length rs) (total-cells rs)),
+      length-append (rows-of rs) (last-line (length rs) (total-cells rs)),
       rows-length s (first len c) c b,
-      last-length (length rs) (total rs) (omega arith) (omega (arith, total-most rs)),
+      last-length (length rs) (total-cells rs) (omega arith) (omega (arith, total-most rs)),
     )
 
 pub listing-fits : (s : List ℕ) (len : ℕ) → Bytes s → length (listing s len) ≤ text-limit
 unfolding listing
 listing-fits s len b = go (checked s len) refl
   where
-    go : (o : Outcome ℕ) → checked s len ≡ o → length (shown s len o) ≤ text-limit
+    go : (o : Outcome ℕ) → checked s len ≡ o → length (text-of s len o) ≤ text-limit
     go (accepted c) e = full-length s len c b e
     go (refused k) e = omega (arith, refused-length k (omega (arith, refusal-small k (checking s len) e)))

@@ -8,7 +8,7 @@ use native.Mathlib.Numerals.{add-one}
 use lib.ListN.{length, take, getD, set, length-append}
 use lib.Seq.{length-take-le, take-suc, take-all}
 use Rattle.records.proofs.Splices.{splice-nil, length-splice, splice-append, splice-one}
-use Rattle.report.specs.Lines.{Put, Counts}
+use Rattle.report.specs.Lines.{Put, Prefix}
 
 -- nothing, one byte, and one word after another
 pub put-nothing : (s : List ℕ) (at : ℕ) → at ≤ length s → Put s at [] s at
@@ -22,7 +22,7 @@ pub put-length : {s w t : List ℕ} {at next : ℕ} → Put s at w t next → le
 put-length {s} {w} {t} {at} p = ap length (p .text) ∙ length-splice s at w (p .fits)
 
 -- what has been put from the start on is counted
-pub put-counts : {s w t : List ℕ} {next : ℕ} → Put s 0 w t next → Counts next t
+pub put-counts : {s w t : List ℕ} {next : ℕ} → Put s 0 w t next → Prefix next t
 put-counts {t = t} {next = n} p = let h : n ≤ length t = omega (arith, p .fits, p .past, put-length p) in (h, sym (length-take-le n t h))
 
 pub put-then : {s v w t u : List ℕ} {at m next : ℕ} → Put s at v t m → Put t m w u next → Put s at (v ++ w) u next

@@ -19,12 +19,12 @@ unfoldable pub decimal : ℕ → List ℕ
 decimal n = digits n n
 
 -- the number that digits stand for, read from the left after digits that stand for v
-abbrev pub read : ℕ → List ℕ → ℕ
-read v [] = v
-read v (b ∷ s) = read (v * 10 + (b - 48)) s
+abbrev pub value-after : ℕ → List ℕ → ℕ
+value-after v [] = v
+value-after v (b ∷ s) = value-after (v * 10 + (b - 48)) s
 
 unfoldable pub value : List ℕ → ℕ
-value s = read 0 s
+value s = value-after 0 s
 
 -- a signed number: a minus sign where it is below nought, and the digits of its magnitude
 abbrev pub minus : ℕ
@@ -34,8 +34,8 @@ abbrev pub sign : ℤ → List ℕ
 sign (pos n) = []
 sign (negsuc n) = minus ∷ []
 
-unfoldable pub signed : ℤ → List ℕ
-signed z = sign z ++ decimal (natAbs z)
+unfoldable pub signed-decimal : ℤ → List ℕ
+signed-decimal z = sign z ++ decimal (natAbs z)
 
 -- the signed number that such text stands for
 unfoldable pub integer : List ℕ → ℤ

@@ -14,42 +14,42 @@ use Rattle.sheet.specs.Checking.{rows, checked}
 use Rattle.report.specs.Lines.{heading-line, row-line, last-line, refused-line}
 
 -- a count, and 0 for a refusal
-abbrev pub count-of : Outcome ℕ → ℕ
-count-of (accepted n) = n
-count-of (refused k) = 0
+abbrev pub or-nought : Outcome ℕ → ℕ
+or-nought (accepted n) = n
+or-nought (refused k) = 0
 
 -- the number of cells inside an outline. No outline of a checked sheet is refused.
-unfoldable pub cells : Outline → ℕ
-cells o = count-of (then (traced o) cell-count)
+unfoldable pub cell-number : Outline → ℕ
+cell-number o = or-nought (then (traced o) cell-count)
 
 -- the plots of a checked sheet with c records
 unfoldable pub plots : List ℕ → ℕ → ℕ → List Record
 plots s len c = map decoded (rows s len c)
 
 -- the row of a plot, and the rows of plots
-unfoldable pub row : Record → List ℕ
-row r = row-line r (cells (r .outline))
+unfoldable pub row-of : Record → List ℕ
+row-of r = row-line r (cell-number (r .outline))
 
 abbrev pub rows-of : List Record → List ℕ
-rows-of rs = joined (map row rs)
+rows-of rs = joined (map row-of rs)
 
 -- the sum of the cells of plots: ground in two plots counts twice
-abbrev pub total : List Record → ℕ
-total [] = 0
-total (r ∷ rs) = cells (r .outline) + total rs
+abbrev pub total-cells : List Record → ℕ
+total-cells [] = 0
+total-cells (r ∷ rs) = cell-number (r .outline) + total-cells rs
 
 -- the heading, a row for each plot, and the last line
 unfoldable pub full : List Record → List ℕ
-full rs = heading-line ++ (rows-of rs ++ last-line (length rs) (total rs))
+full rs = heading-line ++ (rows-of rs ++ last-line (length rs) (total-cells rs))
 
 -- what is written for the answer of a check
-abbrev pub shown : List ℕ → ℕ → Outcome ℕ → List ℕ
-shown s len (accepted c) = full (plots s len c)
-shown s len (refused k) = refused-line k
+abbrev pub text-of : List ℕ → ℕ → Outcome ℕ → List ℕ
+text-of s len (accepted c) = full (plots s len c)
+text-of s len (refused k) = refused-line k
 
 -- the listing of the sheet in the first len bytes of s
 unfoldable pub listing : List ℕ → ℕ → List ℕ
-listing s len = shown s len (checked s len)
+listing s len = text-of s len (checked s len)
 
 -- no line is longer than twelve words of twenty bytes, each with a byte after it, and so no listing is longer than this
 abbrev pub line-limit : ℕ

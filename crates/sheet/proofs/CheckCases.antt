@@ -12,10 +12,10 @@ use Rattle.octagon.specs.Outcome.{Outcome, accepted, refused, then, off-map}
 use Rattle.outline.specs.Closing.{Closes}
 use Rattle.outline.specs.Tracing.{traced, not-closed}
 use Rattle.outline.proofs.Tracings.{Leaves, Tracing, is-octagon, is-open, is-off, tracing, refused-not-closed, refused-off-map}
-use Rattle.records.specs.Rows.{key, Rising, none, more}
+use Rattle.records.specs.Rows.{key, Ascending, none, more}
 use Rattle.sheet.specs.Layout.{trailer-length, trailer-at, decoded}
 use Rattle.sheet.specs.Answers.{bad-length, bad-trailer, bad-distance, bad-number}
-use Rattle.sheet.specs.Checking.{wrong-length, wrong-marks, wrong-distance, rows, judged, surveyed, checked}
+use Rattle.sheet.specs.Checking.{is-bad-length, has-bad-marks, is-bad-distance, rows, judged, surveyed, checked}
 use Rattle.sheet.proofs.Frames.{Sized, size-passed, sized, Marked, marks-passed, marked, Located, place-passed, located, Sound, framed-when}
 use Rattle.sheet.proofs.Surveys.{Traced, judged-when, surveyed-when}
 use Rattle.sheet.proofs.Checks.{size-refused, marks-refused, place-refused, checked-rows}
@@ -33,7 +33,7 @@ pub data Faulty : ℕ → List (List ℕ) → ℕ → Type 0 where
 
 -- each answer of a survey, with what it says of the records
 pub data Surveying (c before : ℕ) (bs : List (List ℕ)) : Outcome ℕ → Type 0 where
-  all-good : Rising Traced before bs → Surveying c before bs (accepted c)
+  all-good : Ascending Traced before bs → Surveying c before bs (accepted c)
   one-faulty : {e : ℕ} → Faulty before bs e → Surveying c before bs (refused e)
 
 pub surveying : (c before : ℕ) (bs : List (List ℕ)) → Surveying c before bs (surveyed c before bs)
@@ -76,17 +76,17 @@ pub data Checking (s : List ℕ) (len : ℕ) : Outcome ℕ → Type 0 where
   misplaced : Sized s len → Marked (trailer-at s (len - trailer-length)) → ¬ (Located len (trailer-at s (len - trailer-length)))
       → Checking s len (refused bad-distance)
   faulty : {c e : ℕ} → Sound s len c → Faulty 0 (rows s len c) e → Checking s len (refused e)
-  right : {c : ℕ} → Sound s len c → Rising Traced 0 (rows s len c) → Checking s len (accepted c)
+  right : {c : ℕ} → Sound s len c → Ascending Traced 0 (rows s len c) → Checking s len (accepted c)
 
 -- one of them holds of any buffer and any length
 pub checking : (s : List ℕ) (len : ℕ) → Checking s len (checked s len)
 checking s len =
     let z = trailer-at s (len - trailer-length) in
-    cases (wrong-length s len)
+    cases (is-bad-length s len)
     (λ a. rw (size-refused s len a) (wrong-size (λ h. true-is-not-false (sym a ∙ sized s len h))))
-    (λ a. cases (wrong-marks z)
+    (λ a. cases (has-bad-marks z)
     (λ b. rw (marks-refused s len a b) (unmarked (size-passed s len a) (λ h. true-is-not-false (sym b ∙ marked z h))))
-    (λ b. cases (wrong-distance len z)
+    (λ b. cases (is-bad-distance len z)
     (λ d. rw (place-refused s len a b d) (misplaced (size-passed s len a) (marks-passed z b) (λ h. true-is-not-false (sym d ∙ located len z h))))
     (λ d. let f : Sound s len (z .count) = record { size = size-passed s len a; marks = marks-passed z b; place = place-passed len z d; count = refl } in
     rw (checked-rows s len (framed-when s len (z .count) f)) (on f (surveying (z .count) 0 (rows s len (z .count)))))))
@@ -101,10 +101,10 @@ check-exactly s len o = (λ e. rw e at (checking s len), given)
   where
     given : {o : Outcome ℕ} → Checking s len o → checked s len ≡ o
     given (wrong-size h) =
-        cases (wrong-length s len) (size-refused s len) (λ a. absurd (h (size-passed s len a)))
+        cases (is-bad-length s len) (size-refused s len) (λ a. absurd (h (size-passed s len a)))
     given (unmarked z h) =
-        cases (wrong-marks (trailer-at s (len - trailer-length))) (marks-refused s len (sized s len z)) (λ a. absurd (h (marks-passed _ a)))
+        cases (has-bad-marks (trailer-at s (len - trailer-length))) (marks-refused s len (sized s len z)) (λ a. absurd (h (marks-passed _ a)))
     given (misplaced z m h) =
-        cases (wrong-distance len (trailer-at s (len - trailer-length))) (place-refused s len (sized s len z) (marked _ m)) (λ a. absurd (h (place-passed len _ a)))
+        cases (is-bad-distance len (trailer-at s (len - trailer-length))) (place-refused s len (sized s len z) (marked _ m)) (λ a. absurd (h (place-passed len _ a)))
     given (faulty {c = c} f h) = checked-rows s len (framed-when s len c f) ∙ surveyed-faulty c h
     given (right {c = c} f g) = checked-rows s len (framed-when s len c f) ∙ surveyed-when c g

@@ -11,11 +11,11 @@ use Rattle.integers.proofs.Tests.{cases, both-true}
 use Rattle.octagon.specs.Outcome.{Outcome, accepted, refused}
 use Rattle.octagon.proofs.Outcomes.{accepted-not-refused}
 use Rattle.records.specs.Parts.{part}
-use Rattle.records.specs.Rows.{Rising}
+use Rattle.records.specs.Rows.{Ascending}
 use Rattle.records.proofs.Rows.{record-at}
 use Rattle.sheet.specs.Layout.{record-length, trailer-length, trailer-at, decoded}
 use Rattle.sheet.specs.Answers.{bad-length, bad-trailer, bad-distance, no-record}
-use Rattle.sheet.specs.Checking.{wrong-length, wrong-marks, wrong-distance, stated, framed, Framed, first, rows, surveyed, checked, fetched, read}
+use Rattle.sheet.specs.Checking.{is-bad-length, has-bad-marks, is-bad-distance, stated, framed, Framed, first, rows, surveyed, checked, fetched, read}
 use Rattle.sheet.proofs.Frames.{framed-known}
 use Rattle.sheet.proofs.Surveys.{Traced, surveyed-when, surveyed-passed}
 
@@ -31,23 +31,23 @@ checked-rows s len e = rw e
 
 -- the refusals of the frame, from its tests
 module _ (s : List ℕ) (len : ℕ) where
-  pub size-refused : wrong-length s len ≡ true → checked s len ≡ refused bad-length
+  pub size-refused : is-bad-length s len ≡ true → checked s len ≡ refused bad-length
   unfolding framed
   size-refused a = checked-frame s len (rw a)
 
-  pub marks-refused : wrong-length s len ≡ false → wrong-marks (trailer-at s (len - trailer-length)) ≡ true → checked s len ≡ refused bad-trailer
+  pub marks-refused : is-bad-length s len ≡ false → has-bad-marks (trailer-at s (len - trailer-length)) ≡ true → checked s len ≡ refused bad-trailer
   unfolding framed stated
   marks-refused a b = checked-frame s len (rw (a, b))
 
-  pub place-refused : wrong-length s len ≡ false → wrong-marks (trailer-at s (len - trailer-length)) ≡ false
-      → wrong-distance len (trailer-at s (len - trailer-length)) ≡ true → checked s len ≡ refused bad-distance
+  pub place-refused : is-bad-length s len ≡ false → has-bad-marks (trailer-at s (len - trailer-length)) ≡ false
+      → is-bad-distance len (trailer-at s (len - trailer-length)) ≡ true → checked s len ≡ refused bad-distance
   unfolding framed stated
   place-refused a b d = checked-frame s len (rw (a, b, d))
 
 -- an accepted check has an accepted frame and good records, and the other way round
 pub record Good (s : List ℕ) (len c : ℕ) : Type 0 where
   pub frame : framed s len ≡ accepted c
-  pub records : Rising Traced 0 (rows s len c)
+  pub records : Ascending Traced 0 (rows s len c)
 
 pub checked-when : (s : List ℕ) (len c : ℕ) → Good s len c → checked s len ≡ accepted c
 checked-when s len c g = checked-rows s len (g .frame) ∙ surveyed-when c (g .records)

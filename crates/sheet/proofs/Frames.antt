@@ -14,7 +14,7 @@ use Rattle.records.proofs.Order.{or-false}
 use Rattle.sheet.specs.declared.trailer.Trailer.{Trailer}
 use Rattle.sheet.specs.Layout.{sheet-limit, record-length, trailer-length, letters, trailer-at}
 use Rattle.sheet.specs.Answers.{bad-length, bad-trailer, bad-distance}
-use Rattle.sheet.specs.Checking.{wrong-length, wrong-marks, wrong-distance, stated, framed, Framed}
+use Rattle.sheet.specs.Checking.{is-bad-length, has-bad-marks, is-bad-distance, stated, framed, Framed}
 
 -- ---- the length
 
@@ -24,13 +24,13 @@ pub record Sized (s : List ℕ) (len : ℕ) : Type 0 where
   pub short : len ≤ sheet-limit
   pub within : len ≤ length s
 
-pub size-passed : (s : List ℕ) (len : ℕ) → wrong-length s len ≡ false → Sized s len
+pub size-passed : (s : List ℕ) (len : ℕ) → is-bad-length s len ≡ false → Sized s len
 size-passed s len e =
     let p = or-false (ltb len trailer-length || ltb sheet-limit len) (ltb (length s) len) e in
     let q = or-false (ltb len trailer-length) (ltb sheet-limit len) (p .0) in
     record { long = ltb-false len trailer-length (q .0); short = ltb-false sheet-limit len (q .1); within = ltb-false (length s) len (p .1) }
 
-pub sized : (s : List ℕ) (len : ℕ) → Sized s len → wrong-length s len ≡ false
+pub sized : (s : List ℕ) (len : ℕ) → Sized s len → is-bad-length s len ≡ false
 sized s len h = rw (le-ltb len trailer-length (h .long), le-ltb sheet-limit len (h .short), le-ltb (length s) len (h .within))
 
 -- ---- the trailer
@@ -41,7 +41,7 @@ pub record Marked (z : Trailer) : Type 0 where
   pub zeros-are : z .zeros ≡ 0
   pub letters-are : z .letters ≡ letters
 
-pub marks-passed : (z : Trailer) → wrong-marks z ≡ false → Marked z
+pub marks-passed : (z : Trailer) → has-bad-marks z ≡ false → Marked z
 marks-passed z e =
     let a = or-false (not (eqb (z .length) record-length) || not (eqb (z .zeros) 0)) (not (eqb (z .letters) letters)) e in
     let b = or-false (not (eqb (z .length) record-length)) (not (eqb (z .zeros) 0)) (a .0) in
@@ -51,7 +51,7 @@ marks-passed z e =
       letters-are = eqb-true (z .letters) letters (not-false _ (a .1));
     }
 
-pub marked : (z : Trailer) → Marked z → wrong-marks z ≡ false
+pub marked : (z : Trailer) → Marked z → has-bad-marks z ≡ false
 marked z h = rw (h .length-is, h .zeros-are, h .letters-are)
 
 -- its distance is that of its records, which lie within a sheet of len bytes
@@ -59,7 +59,7 @@ pub record Located (len : ℕ) (z : Trailer) : Type 0 where
   pub distance-is : z .distance ≡ record-length * z .count
   pub near : z .distance ≤ len - trailer-length
 
-pub place-passed : (len : ℕ) (z : Trailer) → wrong-distance len z ≡ false → Located len z
+pub place-passed : (len : ℕ) (z : Trailer) → is-bad-distance len z ≡ false → Located len z
 place-passed len z e =
     let d = or-false (not (eqb (z .distance) (record-length * z .count))) (ltb (len - trailer-length) (z .distance)) e in
     record {
@@ -67,7 +67,7 @@ place-passed len z e =
       near = ltb-false (len - trailer-length) (z .distance) (d .1);
     }
 
-pub located : (len : ℕ) (z : Trailer) → Located len z → wrong-distance len z ≡ false
+pub located : (len : ℕ) (z : Trailer) → Located len z → is-bad-distance len z ≡ false
 located len z h = rw (eq-eqb (z .distance) (record-length * z .count) (h .distance-is), le-ltb (len - trailer-length) (z .distance) (h .near))
 
 -- ---- the frame
@@ -89,9 +89,9 @@ pub framed-sound : (s : List ℕ) (len c : ℕ) → framed s len ≡ accepted c 
 unfolding framed stated
 framed-sound s len c e =
     let z = trailer-at s (len - trailer-length) in
-    let p = past (wrong-length s len) bad-length _ c e in
-    let q = past (wrong-marks z) bad-trailer _ c (p .1) in
-    let r = past (wrong-distance len z) bad-distance _ c (q .1) in
+    let p = past (is-bad-length s len) bad-length _ c e in
+    let q = past (has-bad-marks z) bad-trailer _ c (p .1) in
+    let r = past (is-bad-distance len z) bad-distance _ c (q .1) in
     record { size = size-passed s len (p .0); marks = marks-passed z (q .0); place = place-passed len z (r .0); count = accepted-same (r .1) }
 
 pub framed-when : (s : List ℕ) (len c : ℕ) → Sound s len c → framed s len ≡ accepted c

@@ -10,7 +10,7 @@ use borrow.Author.Tests.{ltb-true, ltb-false}
 use Rattle.integers.proofs.Tests.{cases}
 use Rattle.octagon.specs.Outcome.{accepted}
 use Rattle.octagon.proofs.Outcomes.{accepted-same, accepted-not-refused}
-use Rattle.records.specs.Rows.{joined, key-width, key, place, placed}
+use Rattle.records.specs.Rows.{joined, key-width, key, rank, put-in-order}
 use Rattle.records.proofs.Rows.{length-records, length-joined, place-le, mul-more}
 use Rattle.records.proofs.Order.{placed-before, placed-here, placed-after, rising-step}
 use Rattle.sheet.specs.declared.Record.{Record}
@@ -40,7 +40,7 @@ pub record Grown (s s′ : List ℕ) (len c : ℕ) (r : Record) : Type 0 where
 module _ (s : List ℕ) (len : ℕ) (r : Record) (c : ℕ) (n : r .number < 256 ^ key-width) (t : Taken s len r c) where
   -- the new records and the new sheet
   abbrev new-rows : List (List ℕ)
-  new-rows = placed (encoded r) (rows s len c)
+  new-rows = put-in-order (encoded r) (rows s len c)
 
   abbrev new-sheet : List ℕ
   new-sheet = sheet (take (first len c) s) new-rows (c + 1) (drop (len + record-length) s)
@@ -62,24 +62,24 @@ module _ (s : List ℕ) (len : ℕ) (r : Record) (c : ℕ) (n : r .number < 256 
       fetched-row new-sheet (len + record-length) (c + 1) k new-checks h
       ∙ ap (λ (x : List (List ℕ)). accepted (decoded (getD x k []))) rows-are
 
-  place-in : place (key (encoded r)) (rows s len c) ≤ c
+  place-in : rank (key (encoded r)) (rows s len c) ≤ c
   place-in = omega (arith, place-le (key (encoded r)) (rows s len c), length-records record-length s (first len c) c)
 
-  new-before : (k : ℕ) → k < place (key (encoded r)) (rows s len c) → fetched new-sheet (len + record-length) k ≡ fetched s len k
+  new-before : (k : ℕ) → k < rank (key (encoded r)) (rows s len c) → fetched new-sheet (len + record-length) k ≡ fetched s len k
   new-before k h =
       let i = place-in in
       new-row k (omega arith)
       ∙ ap (λ (x : List ℕ). accepted (decoded x)) (placed-before (encoded r) (rows s len c) k h)
       ∙ sym (fetched-row s len c k (t .sheet-is) (omega arith))
 
-  new-here : fetched new-sheet (len + record-length) (place (key (encoded r)) (rows s len c)) ≡ accepted r
+  new-here : fetched new-sheet (len + record-length) (rank (key (encoded r)) (rows s len c)) ≡ accepted r
   new-here =
       let i = place-in in
-      new-row (place (key (encoded r)) (rows s len c)) (omega arith)
+      new-row (rank (key (encoded r)) (rows s len c)) (omega arith)
       ∙ ap (λ (x : List ℕ). accepted (decoded x)) (placed-here (encoded r) (rows s len c))
       ∙ ap accepted (decoded-encoded r n (new-fits s len r c n t))
 
-  new-after : (k : ℕ) → place (key (encoded r)) (rows s len c) ≤ k → fetched new-sheet (len + record-length) (suc k) ≡ fetched s len k
+  new-after : (k : ℕ) → rank (key (encoded r)) (rows s len c) ≤ k → fetched new-sheet (len + record-length) (suc k) ≡ fetched s len k
   new-after k h =
       cases (ltb k c)
       (λ b. let l = ltb-true k c b in
@@ -124,7 +124,7 @@ insert-accepted s len r c n e =
     let t = insertion-taken s len r c e in
     rw (insert-leaves s len r c e) (record {
       checks = new-checks s len r c n t;
-      at = place (key (encoded r)) (rows s len c);
+      at = rank (key (encoded r)) (rows s len c);
       before = new-before s len r c n t;
       here = new-here s len r c n t;
       after = new-after s len r c n t;

@@ -8,16 +8,16 @@ use native.Mathlib.Omega.{arith}
 use lib.ListN.{length, take, drop}
 use lib.Seq.{length-take-le}
 use Rattle.octagon.specs.declared.Octagon.{Octagon}
-use Rattle.octagon.specs.Outcome.{Outcome, accepted, refused, then}
+use Rattle.octagon.specs.Outcome.{Outcome, accepted, refused, then, left}
 use Rattle.octagon.proofs.Outcomes.{accepted-not-refused}
 use Rattle.outline.specs.Tracing.{traced}
-use Rattle.records.specs.Rows.{key-width, key, Rising, placed}
+use Rattle.records.specs.Rows.{key-width, key, Ascending, put-in-order}
 use Rattle.records.proofs.Rows.{Each, each-records, each-placed, length-records, length-placed, mul-more}
 use Rattle.records.proofs.Order.{rising-placed}
 use Rattle.sheet.specs.declared.Record.{Record}
 use Rattle.sheet.specs.Layout.{record-length, trailer-length, encoded, Fits}
 use Rattle.sheet.specs.Checking.{Framed, first, rows, checked}
-use Rattle.sheet.specs.Writing.{left, vetted, insertion, inserted, grown, after-insert}
+use Rattle.sheet.specs.Writing.{vetted, insertion, inserted, grown, after-insert}
 use Rattle.sheet.proofs.RecordBytes.{length-encoded, decoded-encoded, key-encoded}
 use Rattle.sheet.proofs.Outlines.{accepted-fits}
 use Rattle.sheet.proofs.Surveys.{Traced}
@@ -52,7 +52,7 @@ insertion-taken s len r c e = go (traced (r .outline)) refl e
 
 -- the buffer is then the heading, the records with the new one, their trailer, and what followed
 pub insert-leaves : (s : List ℕ) (len : ℕ) (r : Record) (c : ℕ) → insertion s len r ≡ accepted c
-    → after-insert s len r ≡ sheet (take (first len c) s) (placed (encoded r) (rows s len c)) (c + 1) (drop (len + record-length) s)
+    → after-insert s len r ≡ sheet (take (first len c) s) (put-in-order (encoded r) (rows s len c)) (c + 1) (drop (len + record-length) s)
 unfolding after-insert grown
 insert-leaves s len r c e = rw e
 
@@ -73,16 +73,16 @@ module _ (s : List ℕ) (len : ℕ) (r : Record) (c : ℕ) (n : r .number < 256 
   pub new-front : length (take (first len c) s) ≡ first len c
   new-front = length-take-le (first len c) s (omega (arith, known))
 
-  pub new-each : Each record-length (placed (encoded r) (rows s len c))
+  pub new-each : Each record-length (put-in-order (encoded r) (rows s len c))
   new-each = each-placed (encoded r) (length-encoded r) (each-records record-length s (first len c) c (omega (arith, known)))
 
-  pub new-count : length (placed (encoded r) (rows s len c)) ≡ c + 1
+  pub new-count : length (put-in-order (encoded r) (rows s len c)) ≡ c + 1
   new-count = length-placed (encoded r) (rows s len c) ∙ omega (arith, length-records record-length s (first len c) c)
 
   pub new-length : len + record-length ≡ length (take (first len c) s) + record-length * (c + 1) + trailer-length
   new-length = omega (arith, known, new-front, mul-more record-length c)
 
-  pub new-rising : Rising Traced 0 (placed (encoded r) (rows s len c))
+  pub new-rising : Ascending Traced 0 (put-in-order (encoded r) (rows s len c))
   new-rising =
       rising-placed (encoded r) (omega (arith, new-key, t .admitted)) new-traced (rw new-key (t .admitted .new))
       (checked-good s len c (t .sheet-is) .records)

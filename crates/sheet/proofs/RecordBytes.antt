@@ -5,7 +5,7 @@ use Prim.Native.Nat.{ℕ, _+_, _^_, _<_}
 use native.Mathlib.Omega.{arith}
 use lib.ListN.{length, take, drop, getD}
 use lib.Seq.{take-all, drop-drop}
-use Rattle.records.specs.Numbers.{number, twos, total, packed, unpacked}
+use Rattle.records.specs.Numbers.{number, twos, total-width, packed, unpacked}
 use Rattle.records.specs.Parts.{part}
 use Rattle.records.specs.Rows.{key-width, key}
 use Rattle.records.proofs.Numbers.{Bytes, drop-bytes, number-take, signed-twos, twos-below, twos-signed}
@@ -14,7 +14,7 @@ use Rattle.sheet.specs.declared.Record.{Record}
 use Rattle.sheet.specs.Layout.{record-length, start-width, layout, values, outline-from, record-from, encoded, decoded, Fits}
 
 -- the fields of a record take the record length
-pub layout-length : total layout ≡ record-length
+pub layout-length : total-width layout ≡ record-length
 layout-length = refl
 
 pub length-encoded : (r : Record) → length (encoded r) ≡ record-length

@@ -5,7 +5,7 @@ use mathlib.Core.List.{List, _++_, append-assoc}
 use Prim.Native.Nat.{ℕ, _+_, _-_, _*_, _^_, _≤_, _<_}
 use native.Mathlib.Omega.{arith}
 use lib.ListN.{length, length-append}
-use Rattle.records.specs.Rows.{records, joined, Rising}
+use Rattle.records.specs.Rows.{records, joined, Ascending}
 use Rattle.records.proofs.Rows.{Each, length-joined, records-joined}
 use Rattle.sheet.specs.Layout.{sheet-limit, record-length, trailer-length, trailer, trailer-values, trailer-from, trailer-at}
 use Rattle.sheet.specs.Checking.{first, rows}
@@ -51,5 +51,5 @@ module _ (h : List ℕ) (rs : List (List ℕ)) (c : ℕ) (d : List ℕ) (len : �
       ∙ ap (λ (x : List ℕ). records record-length x (length h) (length rs)) f
       ∙ records-joined h (trailer c ++ d) (length h) refl m
 
-  pub sheet-good : len ≤ sheet-limit → Rising Traced 0 rs → Good (sheet h rs c d) len c
+  pub sheet-good : len ≤ sheet-limit → Ascending Traced 0 rs → Good (sheet h rs c d) len c
   sheet-good k g = record { frame = framed-when (sheet h rs c d) len c (sheet-sound k); records = rw sheet-rows g }

@@ -12,7 +12,7 @@ use Rattle.octagon.proofs.Outcomes.{accepted-same, accepted-not-refused}
 use Rattle.outline.specs.declared.Outline.{Outline}
 use Rattle.outline.specs.Tracing.{traced}
 use Rattle.records.specs.Parts.{part}
-use Rattle.records.specs.Rows.{records, key, Rising, none, more}
+use Rattle.records.specs.Rows.{records, key, Ascending, none, more}
 use Rattle.sheet.specs.Layout.{record-length, decoded}
 use Rattle.sheet.specs.Answers.{bad-number}
 use Rattle.sheet.specs.Checking.{judged, surveyed}
@@ -76,18 +76,18 @@ judged-passed before v b = go (ltb before (key b)) refl (traced (decoded b .outl
     go false h o q e = absurd (accepted-not-refused (sym e))
 
 -- a survey is accepted exactly where the numbers rise from above and each outline is accepted
-pub surveyed-when : (c : ℕ) {before : ℕ} {bs : List (List ℕ)} → Rising Traced before bs → surveyed c before bs ≡ accepted c
+pub surveyed-when : (c : ℕ) {before : ℕ} {bs : List (List ℕ)} → Ascending Traced before bs → surveyed c before bs ≡ accepted c
 unfolding surveyed
 surveyed-when c none = refl
 surveyed-when c (more {v = v} {r = b} {rs = bs} h t m) = rw (judged-when v b h t) (surveyed-when c m)
 
-pub surveyed-passed : (c n before : ℕ) (bs : List (List ℕ)) → surveyed c before bs ≡ accepted n → Rising Traced before bs × (n ≡ c)
+pub surveyed-passed : (c n before : ℕ) (bs : List (List ℕ)) → surveyed c before bs ≡ accepted n → Ascending Traced before bs × (n ≡ c)
 unfolding surveyed
 surveyed-passed c n before [] e = (none, sym (accepted-same e))
 surveyed-passed c n before (b ∷ bs) e = go (judged before b) refl (λ v. surveyed-passed c n v bs) e
   where
-    go : (o : Outcome ℕ) → judged before b ≡ o → ((v : ℕ) → surveyed c v bs ≡ accepted n → Rising Traced v bs × (n ≡ c))
-        → then o (λ v. surveyed c v bs) ≡ accepted n → Rising Traced before (b ∷ bs) × (n ≡ c)
+    go : (o : Outcome ℕ) → judged before b ≡ o → ((v : ℕ) → surveyed c v bs ≡ accepted n → Ascending Traced v bs × (n ≡ c))
+        → then o (λ v. surveyed c v bs) ≡ accepted n → Ascending Traced before (b ∷ bs) × (n ≡ c)
     go (accepted v) q rest f =
         let j = judged-passed before v b q in
         let m = rest v f in

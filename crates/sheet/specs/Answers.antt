@@ -9,17 +9,17 @@ use Rattle.sheet.specs.declared.Fetched.the-variants as fetched
 use Rattle.sheet.specs.declared.Written.{Written}
 use Rattle.sheet.specs.declared.Written.the-variants as written
 
-abbrev pub count-of : Checked → Outcome ℕ
-count-of (checked.Count c) = accepted c
-count-of (checked.Refused k) = refused k
+abbrev pub count-outcome : Checked → Outcome ℕ
+count-outcome (checked.Count c) = accepted c
+count-outcome (checked.Refused k) = refused k
 
-abbrev pub record-of : Fetched → Outcome Record
-record-of (fetched.Record r) = accepted r
-record-of (fetched.Refused k) = refused k
+abbrev pub record-outcome : Fetched → Outcome Record
+record-outcome (fetched.Record r) = accepted r
+record-outcome (fetched.Refused k) = refused k
 
-abbrev pub length-of : Written → Outcome ℕ
-length-of (written.Length n) = accepted n
-length-of (written.Refused k) = refused k
+abbrev pub length-outcome : Written → Outcome ℕ
+length-outcome (written.Length n) = accepted n
+length-outcome (written.Refused k) = refused k
 
 -- the refusal numbers of this crate: the length; the trailer's marks; its distance; a plot number; no room; no such record
 abbrev pub bad-length : ℕ

@@ -14,24 +14,24 @@ use Rattle.sheet.specs.Layout.{sheet-limit, record-length, trailer-lengt
 use Rattle.sheet.specs.Answers.{bad-length, bad-trailer, bad-distance, bad-number, no-record}
 
 -- the length is below the trailer's, above the limit or above the buffer's
-abbrev pub wrong-length : List ℕ → ℕ → Bool
-wrong-length s len = ltb len trailer-length || ltb sheet-limit len || ltb (length s) len
+abbrev pub is-bad-length : List ℕ → ℕ → Bool
+is-bad-length s len = ltb len trailer-length || ltb sheet-limit len || ltb (length s) len
 
 -- record length, zero bytes or letters are wrong
-abbrev pub wrong-marks : Trailer → Bool
-wrong-marks z = not (eqb (z .length) record-length) || not (eqb (z .zeros) 0) || not (eqb (z .letters) letters)
+abbrev pub has-bad-marks : Trailer → Bool
+has-bad-marks z = not (eqb (z .length) record-length) || not (eqb (z .zeros) 0) || not (eqb (z .letters) letters)
 
 -- the distance is not that of the records, or exceeds the length less the trailer's
-abbrev pub wrong-distance : ℕ → Trailer → Bool
-wrong-distance len z = not (eqb (z .distance) (record-length * z .count)) || ltb (len - trailer-length) (z .distance)
+abbrev pub is-bad-distance : ℕ → Trailer → Bool
+is-bad-distance len z = not (eqb (z .distance) (record-length * z .count)) || ltb (len - trailer-length) (z .distance)
 
 -- the count that a trailer states for a sheet of len bytes: 9, then 10
 unfoldable pub stated : ℕ → Trailer → Outcome ℕ
-stated len z = cond (wrong-marks z) (refused bad-trailer) (cond (wrong-distance len z) (refused bad-distance) (accepted (z .count)))
+stated len z = cond (has-bad-marks z) (refused bad-trailer) (cond (is-bad-distance len z) (refused bad-distance) (accepted (z .count)))
 
 -- the count that the sheet's trailer states: 8 first
 unfoldable pub framed : List ℕ → ℕ → Outcome ℕ
-framed s len = cond (wrong-length s len) (refused bad-length) (stated len (trailer-at s (len - trailer-length)))
+framed s len = cond (is-bad-length s len) (refused bad-length) (stated len (trailer-at s (len - trailer-length)))
 
 -- what is known of a sheet of len bytes with c records, where that is accepted
 pub record Framed (s : List ℕ) (len c : ℕ) : Type 0 where

@@ -5,19 +5,14 @@ use mathlib.Core.List.{List, _++_}
 use Prim.Native.Nat.{ℕ, _+_}
 use lib.ListN.{length, take, drop}
 use lib.Dec.{ltb, eqb}
-use Rattle.octagon.specs.Outcome.{Outcome, accepted, refused, then}
+use Rattle.octagon.specs.Outcome.{Outcome, accepted, refused, then, left}
 use Rattle.outline.specs.Tracing.{traced}
 use Rattle.records.specs.Parts.{splice}
-use Rattle.records.specs.Rows.{joined, present, placed}
+use Rattle.records.specs.Rows.{joined, present, put-in-order}
 use Rattle.sheet.specs.declared.Record.{Record}
 use Rattle.sheet.specs.Layout.{sheet-limit, record-length, trailer-length, trailer, encoded}
 use Rattle.sheet.specs.Answers.{bad-length, bad-number, no-room}
 use Rattle.sheet.specs.Checking.{first, rows, checked}
-
--- what a call leaves of the buffer s: what it writes where it is accepted, and s itself where it is refused
-abbrev pub left : {A : Type 0} → List ℕ → Outcome A → (A → List ℕ) → List ℕ
-left s (accepted a) f = f a
-left s (refused k) f = s
 
 -- ---- start a sheet
 
@@ -54,7 +49,7 @@ inserted s len r = then (insertion s len r) (λ _. accepted (len + record-length
 
 -- a sheet of c records with one more: the heading, the records by rising number, the trailer, and what followed
 unfoldable pub grown : List ℕ → ℕ → ℕ → List ℕ → List ℕ
-grown s len c b = take (first len c) s ++ joined (placed b (rows s len c)) ++ trailer (c + 1) ++ drop (len + record-length) s
+grown s len c b = take (first len c) s ++ joined (put-in-order b (rows s len c)) ++ trailer (c + 1) ++ drop (len + record-length) s
 
 -- what `insert` leaves
 unfoldable pub after-insert : List ℕ → ℕ → Record → List ℕ

@@ -4,7 +4,7 @@ ghost use Prim.Native.Nat.{_+_, _*_, _≤_};
 ghost use lib.ListN.{length};
 ghost use Rattle.records.specs.Parts.{part};
 ghost use Rattle.records.specs.Rows.{records};
-ghost use Rattle.sheet.specs.Answers.{«count-of»};
+ghost use Rattle.sheet.specs.Answers.{«count-outcome»};
 ghost use Rattle.sheet.specs.Layout.{«record-length»};
 ghost use Rattle.sheet.specs.Checking.{judged, surveyed};
 use crate::BAD_NUMBER;
@@ -17,7 +17,7 @@ use octagon::Answer;
 // The plot number of the record at an index. Refuses one that is not above `before`, then the outline's refusals.
 fn judge(s: &[u8], at: usize, before: u32) -> Checked
     requires { ⌜ at + «record-length» ≤ length (now s) ⌝ }
-    ensures { λ r. ⌜ «count-of» r ≡ judged before (part (now (s .entry)) at «record-length») ⌝ }
+    ensures { λ r. ⌜ «count-outcome» r ≡ judged before (part (now (s .entry)) at «record-length») ⌝ }
 {
     let number = key_at(s, at);
     if number <= before {
@@ -32,7 +32,7 @@ fn judge(s: &[u8], at: usize, before: u32) -> Checked
 // Checks `count` records in order, and answers the count.
 pub fn survey(s: &[u8], first: usize, count: u32) -> Checked
     requires { ⌜ first + «record-length» * count ≤ length (now s) ⌝ }
-    ensures { λ r. ⌜ «count-of» r ≡ surveyed count 0 (records «record-length» (now (s .entry)) first count) ⌝ }
+    ensures { λ r. ⌜ «count-outcome» r ≡ surveyed count 0 (records «record-length» (now (s .entry)) first count) ⌝ }
 {
     let mut p = first;
     let mut before = 0;

@@ -2,11 +2,11 @@
 ghost use mathlib.Core.Path.{_≡_};
 ghost use Prim.Native.Nat.{_+_, _*_, _≤_, _<_};
 ghost use lib.ListN.{length};
-ghost use Rattle.octagon.specs.Outcome.{accepted, «then»};
-ghost use Rattle.sheet.specs.Answers.{«count-of», «length-of»};
+ghost use Rattle.octagon.specs.Outcome.{accepted, «then», left};
+ghost use Rattle.sheet.specs.Answers.{«count-outcome», «length-outcome»};
 ghost use Rattle.sheet.specs.Layout.{«record-length», «sheet-limit», encoded, Fits};
 ghost use Rattle.sheet.specs.Checking.{Framed};
-ghost use Rattle.sheet.specs.Writing.{left, admitted, vetted, grown};
+ghost use Rattle.sheet.specs.Writing.{admitted, vetted, grown};
 use crate::BAD_NUMBER;
 use crate::Checked;
 use crate::LIMIT;
@@ -26,7 +26,7 @@ use crate::trailer::put_trailer;
 // a sheet that has no room.
 pub fn admit(sheet: &[u8], len: usize, v: u32, c: u32) -> Checked
     requires { ⌜ Framed (now sheet) len c ⌝ }
-    ensures { λ r. ⌜ «count-of» r ≡ admitted (now (sheet .entry)) len v c ⌝ }
+    ensures { λ r. ⌜ «count-outcome» r ≡ admitted (now (sheet .entry)) len v c ⌝ }
 {
     let count = c as usize;
     let first = len - TRAILER - RECORD * count;
@@ -59,7 +59,7 @@ pub fn place_record(sheet: &mut [u8], len: usize, c: u32, r: Record)
 
 // How many records a sheet has, where it may take one with the number v. The refusals of the check, and then those of `admit`.
 fn vet(sheet: &[u8], len: usize, v: u32) -> Checked
-    ensures { λ r. ⌜ «count-of» r ≡ vetted (now (sheet .entry)) len v ⌝ }
+    ensures { λ r. ⌜ «count-outcome» r ≡ vetted (now (sheet .entry)) len v ⌝ }
 {
     let found = check(sheet, len);
     let Checked::Count(c) = found else {
@@ -71,7 +71,7 @@ fn vet(sheet: &[u8], len: usize, v: u32) -> Checked
 // Inserts a record whose outline is accepted.
 pub fn insert_traced(sheet: &mut [u8], len: usize, r: Record) -> Written
     requires { ⌜ Fits (r .outline) ⌝ }
-    ensures { λ a. ⌜ «length-of» a ≡ «then» (vetted (now (sheet .entry)) len (r .number)) (λ _. accepted (len + «record-length»)) ⌝ }
+    ensures { λ a. ⌜ «length-outcome» a ≡ «then» (vetted (now (sheet .entry)) len (r .number)) (λ _. accepted (len + «record-length»)) ⌝ }
     ensures { λ a. ⌜ now (sheet .exit) ≡ left (now (sheet .entry)) (vetted (now (sheet .entry)) len (r .number)) (λ c. grown (now (sheet .entry)) len c (encoded r)) ⌝ }
 {
     let v = r.number;

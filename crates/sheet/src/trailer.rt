@@ -3,7 +3,7 @@ ghost use mathlib.Core.Path.{_≡_};
 ghost use Prim.Native.Nat.{_+_, _*_, _≤_};
 ghost use lib.ListN.{length};
 ghost use Rattle.records.specs.Parts.{splice};
-ghost use Rattle.sheet.specs.Answers.{«count-of»};
+ghost use Rattle.sheet.specs.Answers.{«count-outcome»};
 ghost use Rattle.sheet.specs.Layout.{«record-length», «trailer-length», trailer, «trailer-at»};
 ghost use Rattle.sheet.specs.Checking.{stated, framed};
 use crate::BAD_DISTANCE;
@@ -61,7 +61,7 @@ pub fn put_trailer(s: &mut [u8], at: usize, count: u32)
 // The count that a trailer states for a sheet of `len` bytes. Refuses wrong marks, then a wrong distance.
 fn state(z: Trailer, len: usize) -> Checked
     requires { ⌜ «trailer-length» ≤ len ⌝ }
-    ensures { λ r. ⌜ «count-of» r ≡ stated len z ⌝ }
+    ensures { λ r. ⌜ «count-outcome» r ≡ stated len z ⌝ }
 {
     let distance = z.distance as usize;
     let count = z.count;
@@ -77,7 +77,7 @@ fn state(z: Trailer, len: usize) -> Checked
 
 // The count that the trailer of a sheet states. Refuses a wrong length first.
 pub fn frame(sheet: &[u8], len: usize) -> Checked
-    ensures { λ r. ⌜ «count-of» r ≡ framed (now (sheet .entry)) len ⌝ }
+    ensures { λ r. ⌜ «count-outcome» r ≡ framed (now (sheet .entry)) len ⌝ }
 {
     if (len < TRAILER) | (LIMIT < len) | (sheet.len() < len) {
         return Checked::Refused(BAD_LENGTH);

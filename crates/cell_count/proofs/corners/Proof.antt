@@ -7,7 +7,7 @@ use mir.Syntax.{w32}
 use Rattle.integers.proofs.Range.{signs}
 use Rattle.octagon.specs.Widths.{Held}
 use Rattle.octagon.proofs.Fields.{back, back-is}
-use Rattle.cell_count.specs.Area.{corner, corners}
+use Rattle.cell_count.specs.Area.{cut, cuts}
 use Rattle.cell_count.proofs.Lengths.{Lengths, lengths, Small, small}
 use Rattle.cell_count.proofs.corners.Statement.{statement}
 use Rattle.cell_count.proofs.corners.Tie as tie
@@ -46,13 +46,13 @@ add-result-3 c =
     record { fits = omega (arith, k1 .corner .ensures, k2 .corner2 .ensures, k3 .corner3 .ensures, c .corner4 .ensures, m) }
 
 returns : tie.Need-returns
-unfolding corners
+unfolding cuts
 returns c =
     let k3 = c .before in
     let k2 = k3 .before in
     let k1 = k2 .before in
     let s = k1 .before .before .before .before .before .before .before .before .before in
-    total (k1 .corner .ensures) (k2 .corner2 .ensures) (k3 .corner3 .ensures) (c .corner4 .ensures) ∙ ap corners (back-is w32 (s .args .a) (held s))
+    total (k1 .corner .ensures) (k2 .corner2 .ensures) (k3 .corner3 .ensures) (c .corner4 .ensures) ∙ ap cuts (back-is w32 (s .args .a) (held s))
 
 pub corners-spec : {M : Type 1} → statement M
 corners-spec =

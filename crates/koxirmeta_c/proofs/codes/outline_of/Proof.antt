@@ -4,12 +4,12 @@ use lib.IntN.{pos}
 use lib.ListN.{getD}
 use mir.Syntax.{w32}
 use Rattle.integers.proofs.Range.{kept}
-use Rattle.koxirmeta_c.specs.Outlines.{outline-of}
+use Rattle.koxirmeta_c.specs.Outlines.{outline-in}
 use Rattle.koxirmeta_c.proofs.codes.outline_of.Statement.{statement}
 use Rattle.koxirmeta_c.proofs.codes.outline_of.Tie as tie
 
 returns : tie.Need-returns
-unfolding outline-of
+unfolding outline-in
 returns c =
     let j = c .before .before .before .before .before .before .before .before in
     let i = j .before in

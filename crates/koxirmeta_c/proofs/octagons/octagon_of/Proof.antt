@@ -2,12 +2,12 @@
 use borrow.Author.Needs.{needs}
 use mir.Syntax.{w32}
 use Rattle.octagon.proofs.Fields.{back-is}
-use Rattle.koxirmeta_c.specs.Calls.{octagon-of}
+use Rattle.koxirmeta_c.specs.Calls.{octagon-in}
 use Rattle.koxirmeta_c.proofs.octagons.octagon_of.Statement.{statement}
 use Rattle.koxirmeta_c.proofs.octagons.octagon_of.Tie as tie
 
 returns : tie.Need-returns
-unfolding octagon-of
+unfolding octagon-in
 returns c =
     let c6 = c .before in
     let c5 = c6 .before in
@@ -16,7 +16,7 @@ returns c =
     let c2 = c3 .before in
     let c1 = c2 .before in
     let c0 = c1 .before in
-    back-is w32 (octagon-of (c0 .before .args .s .now)) (record {
+    back-is w32 (octagon-in (c0 .before .args .s .now)) (record {
       held0 = record { sfits = c0 .t3 .given };
       held1 = record { sfits = c1 .t5 .given };
       held2 = record { sfits = c2 .t7 .given };

@@ -4,13 +4,13 @@ use borrow.Author.Needs.{needs}
 use borrow.Author.Tests.{eq-eqb, ne-eqb}
 use Rattle.cell_count.specs.Answers.{outcome}
 use Rattle.cell_count.specs.Area.{cell-count}
-use Rattle.koxirmeta_c.specs.Calls.{octagon-of, counted}
+use Rattle.koxirmeta_c.specs.Calls.{octagon-in, counted}
 use Rattle.koxirmeta_c.proofs.Fitting.{right, wrong, gives, keeps}
 use Rattle.koxirmeta_c.proofs.operations.kx_count.Statement.{statement}
 use Rattle.koxirmeta_c.proofs.operations.kx_count.Tie as tie
 
 -- what was counted
-count : (c : tie.After-count-cells) → outcome (c .count-cells .result) ≡ cell-count (octagon-of (c .before .before .before .args .bounds .now))
+count : (c : tie.After-count-cells) → outcome (c .count-cells .result) ≡ cell-count (octagon-in (c .before .before .before .args .bounds .now))
 count c = c .count-cells .ensures ∙ ap cell-count (c .before .octagon-of .ensures)
 
 returns : tie.Need-returns

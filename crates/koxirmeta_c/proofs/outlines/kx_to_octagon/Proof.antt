@@ -3,7 +3,7 @@ use mathlib.Core.Path.{_≡_, _∙_, ap}
 use borrow.Author.Needs.{needs}
 use lib.ListN.{length}
 use Rattle.outline.specs.Tracing.{traced}
-use Rattle.koxirmeta_c.specs.Outlines.{drawn}
+use Rattle.koxirmeta_c.specs.Outlines.{tracing}
 use Rattle.koxirmeta_c.proofs.Fitting.{sized₃, right, wrong}
 use Rattle.koxirmeta_c.proofs.outlines.kx_to_octagon.Statement.{statement}
 use Rattle.koxirmeta_c.proofs.outlines.kx_to_octagon.Tie as tie
@@ -15,13 +15,13 @@ sized c =
     sized₃ (length (a .start .now)) (length (a .sides .now)) (length (a .out .now)) (c .if1 .taken)
 
 returns : tie.Need-returns
-unfolding drawn
+unfolding tracing
 returns c =
     let t = c .before .before .before in
     right (t .before .before .if1 .taken) (t .to-octagon .ensures ∙ ap traced (t .before .outline-of .ensures)) (c .before .give .ensures)
 
 returns-2 : tie.Need-returns-2
-unfolding drawn
+unfolding tracing
 returns-2 c = wrong _ (c .if1 .left)
 
 pub kx-to-octagon-spec : {M : Type 1} → statement M

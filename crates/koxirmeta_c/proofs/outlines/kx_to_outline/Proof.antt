@@ -3,7 +3,7 @@ use mathlib.Core.Path.{_≡_, sym, _∙_, ap}
 use borrow.Author.Needs.{needs}
 use lib.ListN.{length}
 use Rattle.outline.specs.Outlining.{outlined, outcome}
-use Rattle.koxirmeta_c.specs.Calls.{octagon-of}
+use Rattle.koxirmeta_c.specs.Calls.{octagon-in}
 use Rattle.koxirmeta_c.specs.Outlines.{outlining}
 use Rattle.koxirmeta_c.proofs.Fitting.{sized₃, right, wrong, gives, keeps}
 use Rattle.koxirmeta_c.proofs.outlines.kx_to_outline.Statement.{statement}
@@ -16,7 +16,7 @@ sized c =
     sized₃ (length (a .bounds .now)) (length (a .start .now)) (length (a .sides .now)) (c .if1 .taken)
 
 -- what was traced
-traced : (c : tie.After-to-outline) → outcome (c .to-outline .result) ≡ outlined (octagon-of (c .before .before .before .before .args .bounds .now))
+traced : (c : tie.After-to-outline) → outcome (c .to-outline .result) ≡ outlined (octagon-in (c .before .before .before .before .args .bounds .now))
 traced c = c .to-outline .ensures ∙ ap outlined (c .before .octagon-of .ensures)
 
 returns : tie.Need-returns

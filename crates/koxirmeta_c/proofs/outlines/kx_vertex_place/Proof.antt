@@ -3,7 +3,7 @@ use mathlib.Core.Path.{_≡_, sym, _∙_, ap}
 use borrow.Author.Needs.{needs}
 use lib.ListN.{length}
 use Rattle.outline.specs.Places.{located, outcome}
-use Rattle.koxirmeta_c.specs.Calls.{octagon-of}
+use Rattle.koxirmeta_c.specs.Calls.{octagon-in}
 use Rattle.koxirmeta_c.specs.Outlines.{locating}
 use Rattle.koxirmeta_c.proofs.Fitting.{sized₂, right, wrong, gives, keeps}
 use Rattle.koxirmeta_c.proofs.outlines.kx_vertex_place.Statement.{statement}
@@ -15,7 +15,7 @@ sized c = let a = c .before .before .args in sized₂ (length (a .bounds .now)) 
 -- what was located
 found : (c : tie.After-vertex-place) →
     let s = c .before .before .before .before in
-    outcome (c .vertex-place .result) ≡ located (octagon-of (s .args .bounds .now)) (s .args .k)
+    outcome (c .vertex-place .result) ≡ located (octagon-in (s .args .bounds .now)) (s .args .k)
 found c = c .vertex-place .ensures ∙ ap (λ o. located o (c .before .before .before .before .args .k)) (c .before .octagon-of .ensures)
 
 returns : tie.Need-returns

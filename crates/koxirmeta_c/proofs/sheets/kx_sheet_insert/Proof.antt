@@ -3,7 +3,7 @@ use mathlib.Core.Path.{_≡_, refl, sym, _∙_, ap}
 use mathlib.Core.Bool.{Bool, cond}
 use borrow.Author.Needs.{needs}
 use lib.ListN.{length}
-use Rattle.sheet.specs.Answers.{length-of}
+use Rattle.sheet.specs.Answers.{length-outcome}
 use Rattle.sheet.specs.Writing.{inserted, after-insert}
 use Rattle.koxirmeta_c.specs.Sheets.{plot, inserting, after-inserting}
 use Rattle.koxirmeta_c.proofs.Fitting.{sized₂, right, wrong, gives, keeps}
@@ -19,7 +19,7 @@ sized c =
 -- what was inserted
 answer : (c : tie.After-insert) →
     let a = c .before .before .before .before .before .before .args in
-    length-of (c .insert .result) ≡ inserted (a .sheet .now) (a .len) (plot (a .number) (a .start .now) (a .sides .now))
+    length-outcome (c .insert .result) ≡ inserted (a .sheet .now) (a .len) (plot (a .number) (a .start .now) (a .sides .now))
 unfolding plot
 answer c =
     let o = c .before .before in
@@ -43,14 +43,14 @@ unfolding inserting
 returns c =
     let n = c .before in
     let i = n .before .before .before .before in
-    (right (i .before .before .before .if1 .taken) (sym (ap length-of (n .n .given .1)) ∙ answer i) (gives _ refl), sheet i)
+    (right (i .before .before .before .if1 .taken) (sym (ap length-outcome (n .n .given .1)) ∙ answer i) (gives _ refl), sheet i)
 
 returns-2 : tie.Need-returns-2
 unfolding inserting
 returns-2 c =
     let k = c .before in
     let i = k .before .before .before .before in
-    (right (i .before .before .before .if1 .taken) (sym (ap length-of (k .k .given .1)) ∙ answer i) (keeps _), sheet i)
+    (right (i .before .before .before .if1 .taken) (sym (ap length-outcome (k .k .given .1)) ∙ answer i) (keeps _), sheet i)
 
 returns-3 : tie.Need-returns-3
 unfolding inserting after-inserting

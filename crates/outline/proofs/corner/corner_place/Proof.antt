@@ -3,11 +3,11 @@ use native.Mathlib.Omega.{arith}
 use mir.Facts.{toZ-ofZ}
 use borrow.Author.Tests.{lt-ltb, le-ltb}
 use Rattle.integers.proofs.Range.{wide-fits}
-use Rattle.outline.specs.Places.{Fitting, corner-place}
+use Rattle.outline.specs.Places.{HeldCell, corner-place}
 use Rattle.outline.proofs.corner.corner_place.Statement.{statement}
 use Rattle.outline.proofs.corner.corner_place.Tie as tie
 
-fitting : (c : tie.After-vertex) → Fitting (c .vertex .result)
+fitting : (c : tie.After-vertex) → HeldCell (c .vertex .result)
 fitting c = rw (c .vertex .ensures) (c .before .before .pre (c .before .before .args .k) (omega arith))
 
 returns : tie.Need-returns

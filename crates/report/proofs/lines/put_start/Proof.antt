@@ -1,7 +1,7 @@
 -- `put_start` meets its contract. Assumes nothing.
 use mathlib.Core.List.{_∷_, _++_}
 use mir.Facts.{toZ-ofZ}
-use Rattle.report.specs.Decimal.{decimal, signed}
+use Rattle.report.specs.Decimal.{decimal, signed-decimal}
 use Rattle.report.specs.Lines.{space, row-start}
 use Rattle.report.proofs.Writing.{put-length, Left, left-all, left-more, left-room}
 use Rattle.report.proofs.lines.put_start.Statement.{statement}
@@ -9,16 +9,16 @@ use Rattle.report.proofs.lines.put_start.Tie as tie
 
 -- what is left before the first word, after it, and after the second
 left0 : (c : tie.Start) → let a = c .args in
-    Left (a .text .now) (a .at) (row-start (a .number) (a .i) (a .j)) (a .text .now) (a .at) (decimal (a .number) ++ ((space ∷ signed (a .i)) ++ (space ∷ signed (a .j))))
+    Left (a .text .now) (a .at) (row-start (a .number) (a .i) (a .j)) (a .text .now) (a .at) (decimal (a .number) ++ ((space ∷ signed-decimal (a .i)) ++ (space ∷ signed-decimal (a .j))))
 unfolding row-start
 left0 c = let a = c .args in left-all (a .text .now) (a .at) (row-start (a .number) (a .i) (a .j)) (c .pre)
 
 left1 : (c : tie.After-put-decimal) → let a = c .before .before .before .args in
-    Left (a .text .now) (a .at) (row-start (a .number) (a .i) (a .j)) (c .put-decimal .last .0) (c .put-decimal .result) ((space ∷ signed (a .i)) ++ (space ∷ signed (a .j)))
+    Left (a .text .now) (a .at) (row-start (a .number) (a .i) (a .j)) (c .put-decimal .last .0) (c .put-decimal .result) ((space ∷ signed-decimal (a .i)) ++ (space ∷ signed-decimal (a .j)))
 left1 c = left-more _ _ (left0 (c .before .before .before)) (c .put-decimal .ensures)
 
 left2 : (c : tie.After-put-integer) → let a = c .before .before .before .before .before .before .before .args in
-    Left (a .text .now) (a .at) (row-start (a .number) (a .i) (a .j)) (c .put-integer .last .0) (c .put-integer .result) (space ∷ signed (a .j))
+    Left (a .text .now) (a .at) (row-start (a .number) (a .i) (a .j)) (c .put-integer .last .0) (c .put-integer .result) (space ∷ signed-decimal (a .j))
 left2 c =
     let d = c .before .before .before .before in
     left-more _ _ (left1 d) (rw (toZ-ofZ (d .before .before .before .fits .i)) at (c .put-integer .ensures))
@@ -29,7 +29,7 @@ put-decimal-requires c κs = left-room (decimal (c .before .before .args .number
 put-integer-requires : tie.Need-put-integer-requires
 put-integer-requires c κs =
     let e = c .before .before .before .before .before .before in
-    rw (toZ-ofZ (e .fits .i)) (left-room (space ∷ signed (e .args .i)) _ (left1 (c .before .before .before)))
+    rw (toZ-ofZ (e .fits .i)) (left-room (space ∷ signed-decimal (e .args .i)) _ (left1 (c .before .before .before)))
 
 put-integer-requires-2 : tie.Need-put-integer-requires-2
 put-integer-requires-2 c κs =

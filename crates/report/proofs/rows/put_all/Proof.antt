@@ -6,7 +6,7 @@ use native.Mathlib.Omega.{arith}
 use lib.ListN.{length}
 use Rattle.sheet.specs.declared.Record.{Record}
 use Rattle.report.specs.Lines.{heading-line, last-line}
-use Rattle.report.specs.Listing.{plots, rows-of, total, full}
+use Rattle.report.specs.Listing.{plots, rows-of, total-cells, full}
 use Rattle.report.proofs.Writing.{put-length, Left, left-parts, left-more, left-room}
 use Rattle.report.proofs.Plots.{length-plots}
 use Rattle.report.proofs.rows.put_all.Statement.{statement}
@@ -15,19 +15,19 @@ use Rattle.report.proofs.rows.put_all.Tie as tie
 abbrev rs : tie.Start → List Record
 rs c = let a = c .args in plots (a .sheet .now) (a .len) (a .c)
 
-parts : (rs : List Record) (c : ℕ) → length rs ≡ c → full rs ≡ heading-line ++ (rows-of rs ++ last-line c (total rs))
+parts : (rs : List Record) (c : ℕ) → length rs ≡ c → full rs ≡ heading-line ++ (rows-of rs ++ last-line c (total-cells rs))
 unfolding full
 parts rs c e = rw e
 
 -- what is left before the heading, after it, and after the rows
 left0 : (c : tie.Start) →
-    Left (c .args .text .now) 0 (full (rs c)) (c .args .text .now) 0 (heading-line ++ (rows-of (rs c) ++ last-line (c .args .c) (total (rs c))))
+    Left (c .args .text .now) 0 (full (rs c)) (c .args .text .now) 0 (heading-line ++ (rows-of (rs c) ++ last-line (c .args .c) (total-cells (rs c))))
 left0 c =
     let a = c .args in
     left-parts (a .text .now) 0 (full (rs c)) _ (parts (rs c) (a .c) (length-plots (a .sheet .now) (a .len) (a .c))) (omega (arith, c .pre .1))
 
 left1 : (c : tie.After-put-heading) → let e = c .before .before .before .before in
-    Left (e .args .text .now) 0 (full (rs e)) (c .put-heading .last .0) (c .put-heading .result) (rows-of (rs e) ++ last-line (e .args .c) (total (rs e)))
+    Left (e .args .text .now) 0 (full (rs e)) (c .put-heading .last .0) (c .put-heading .result) (rows-of (rs e) ++ last-line (e .args .c) (total-cells (rs e)))
 left1 c = left-more heading-line _ (left0 (c .before .before .before .before)) (c .put-heading .ensures)
 
 left2 : (c : tie.After-put-rows) → let e = c .before .before .before .before .before .before .before .before in

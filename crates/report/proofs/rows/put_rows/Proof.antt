@@ -8,10 +8,10 @@ use borrow.Author.Needs.{needs}
 use Rattle.octagon.specs.Outcome.{accepted}
 use Rattle.octagon.proofs.Outcomes.{accepted-same, accepted-not-refused}
 use Rattle.sheet.specs.declared.Record.{Record}
-use Rattle.sheet.specs.Answers.{record-of}
+use Rattle.sheet.specs.Answers.{record-outcome}
 use Rattle.sheet.specs.Checking.{read}
 use Rattle.sheet.proofs.Checks.{read-checked}
-use Rattle.report.specs.Listing.{plots, rows-of, total}
+use Rattle.report.specs.Listing.{plots, rows-of, total-cells}
 use Rattle.report.proofs.Writing.{put-length, put-nothing, Left, left-all}
 use Rattle.report.proofs.Plots.{plot, length-plots, fetched-plot, total-most, rest, row-room, row-more, total-more, rest-end, total-end}
 use Rattle.report.proofs.rows.put_rows.Statement.{statement}
@@ -19,7 +19,7 @@ use Rattle.report.proofs.rows.put_rows.Tie as tie
 
 abbrev Inv-loop : tie.InvT-loop
 Inv-loop sheet len c text₀ at next₀ sum₀ k₀ text next sum k =
-    (k ≤ c) × Left text₀ at (rows-of (plots sheet len c)) text next (rest (plots sheet len c) k) × (sum + total (drop k (plots sheet len c)) ≡ total (plots sheet len c))
+    (k ≤ c) × Left text₀ at (rows-of (plots sheet len c)) text next (rest (plots sheet len c) k) × (sum + total-cells (drop k (plots sheet len c)) ≡ total-cells (plots sheet len c))
 
 abbrev μ-loop : tie.MeasureT-loop
 μ-loop sheet len c text₀ at next₀ sum₀ k₀ text next sum k = c - k
@@ -45,10 +45,10 @@ answer c =
 -- no record of a checked sheet is refused
 not-refused : (c : tie.After-enum-told Inv-loop μ-loop) → ⊥
 not-refused c =
-    accepted-not-refused (sym (answer (c .before .before .before)) ∙ sym (c .before .before .read .ensures) ∙ ap record-of (c .enum-told .given .1))
+    accepted-not-refused (sym (answer (c .before .before .before)) ∙ sym (c .before .before .read .ensures) ∙ ap record-outcome (c .enum-told .given .1))
 
 is-plot : (c : tie.After-r Inv-loop μ-loop) → c .r .given .0 .0 ≡ plot (rs (c .before .before .before .before)) (c .before .before .before .before .loop .k)
-is-plot c = accepted-same (sym (ap record-of (c .r .given .1)) ∙ c .before .before .read .ensures ∙ answer (c .before .before .before))
+is-plot c = accepted-same (sym (ap record-outcome (c .r .given .1)) ∙ c .before .before .read .ensures ∙ answer (c .before .before .before))
 
 put-row-requires : tie.Need-put-row-requires Inv-loop μ-loop
 put-row-requires c κs =

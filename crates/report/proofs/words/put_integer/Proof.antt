@@ -3,7 +3,7 @@ use native.Mathlib.Omega.{arith}
 use lib.ListN.{length-set}
 use borrow.Author.Needs.{needs}
 use mir.Facts.{toZ-ofZ}
-use Rattle.report.specs.Decimal.{signed}
+use Rattle.report.specs.Decimal.{signed-decimal}
 use Rattle.report.specs.Lines.{space}
 use Rattle.report.proofs.Writing.{put-length}
 use Rattle.report.proofs.Numbers.{put-cons}
@@ -16,7 +16,7 @@ put-signed-requires c κs = rw (toZ-ofZ (c .before .before .fits .z), length-set
 returns : tie.Need-returns
 returns c =
     let e = c .before .before .before .before .before in
-    put-cons space (signed (e .args .z)) (omega (arith, e .pre)) (rw (toZ-ofZ (e .fits .z)) at (c .before .before .put-signed .ensures))
+    put-cons space (signed-decimal (e .args .z)) (omega (arith, e .pre)) (rw (toZ-ofZ (e .fits .z)) at (c .before .before .put-signed .ensures))
 
 pub put-integer-spec : {M : Type 1} → statement M
 put-integer-spec = tie.close (tie.spec (λ c. search needs) (λ c. search needs) put-signed-requires (λ c. put-length (returns c)) returns)

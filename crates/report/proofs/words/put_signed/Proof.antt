@@ -7,18 +7,18 @@ use lib.IntN.{ℤ, natAbs}
 use lib.ListN.{length, length-append}
 use borrow.Author.Needs.{needs}
 use mir.Facts.{toZ-ofZ}
-use Rattle.report.specs.Decimal.{decimal, sign, signed}
+use Rattle.report.specs.Decimal.{decimal, sign, signed-decimal}
 use Rattle.report.specs.Lines.{Put}
 use Rattle.report.proofs.Writing.{put-length, put-then}
 use Rattle.report.proofs.words.put_signed.Statement.{statement}
 use Rattle.report.proofs.words.put_signed.Tie as tie
 
-length-signed : (z : ℤ) → length (signed z) ≡ length (sign z) + length (decimal (natAbs z))
-unfolding signed
+length-signed : (z : ℤ) → length (signed-decimal z) ≡ length (sign z) + length (decimal (natAbs z))
+unfolding signed-decimal
 length-signed z = length-append (sign z) (decimal (natAbs z))
 
-put-both : (z : ℤ) {s t u : List ℕ} {at m next : ℕ} → Put s at (sign z) t m → Put t m (decimal (natAbs z)) u next → Put s at (signed z) u next
-unfolding signed
+put-both : (z : ℤ) {s t u : List ℕ} {at m next : ℕ} → Put s at (sign z) t m → Put t m (decimal (natAbs z)) u next → Put s at (signed-decimal z) u next
+unfolding signed-decimal
 put-both z p q = put-then p q
 
 -- the sign that was put

@@ -6,7 +6,7 @@ use lib.ListN.{length}
 use borrow.Author.Needs.{needs}
 use Rattle.records.specs.Rows.{records}
 use Rattle.sheet.specs.Layout.{record-length}
-use Rattle.sheet.specs.Answers.{count-of}
+use Rattle.sheet.specs.Answers.{count-outcome}
 use Rattle.sheet.specs.Checking.{surveyed}
 use Rattle.sheet.proofs.Surveys.{survey-refused, survey-more, survey-end}
 use Rattle.sheet.proofs.checking.survey.Statement.{statement}
@@ -25,7 +25,7 @@ returns c =
     let l = c .before .before .before .before .loop in
     let a = c .before .before .before .before .before .before .args in
     let j = c .before .before in
-    let e = ap count-of (c .enum-told .given .1) in
+    let e = ap count-outcome (c .enum-told .given .1) in
     e ∙ sym (l .inv .1 ∙ survey-refused (a .count) (l .before) (a .s .now) (l .p) (l .left) _ (j .before .loop-test .taken) (sym (j .judge .ensures) ∙ e))
 
 loop-again : tie.Need-loop-again Inv-loop μ-loop
@@ -33,7 +33,7 @@ loop-again c =
     let l = c .before .before .before .before .before .loop in
     let a = c .before .before .before .before .before .before .before .args in
     let j = c .before .before .before in
-    let e = sym (j .judge .ensures) ∙ ap count-of (c .before .answer .given .1) in (
+    let e = sym (j .judge .ensures) ∙ ap count-outcome (c .before .answer .given .1) in (
       omega arith,
       l .inv .1 ∙ survey-more (a .count) (l .before) (a .s .now) (l .p) (l .left) _ (j .before .loop-test .taken) e,
     )

@@ -3,7 +3,7 @@ use mathlib.Core.Path.{_≡_, refl, sym, ap, _∙_}
 use native.Mathlib.Omega.{arith}
 use borrow.Author.Needs.{needs}
 use Rattle.octagon.specs.Outcome.{accepted}
-use Rattle.sheet.specs.Answers.{count-of}
+use Rattle.sheet.specs.Answers.{count-outcome}
 use Rattle.sheet.specs.Checking.{Framed}
 use Rattle.sheet.specs.Writing.{vetted}
 use Rattle.sheet.proofs.Checks.{checked-known}
@@ -13,7 +13,7 @@ use Rattle.sheet.proofs.inserting.insert_traced.Tie as tie
 
 -- the count that was vetted, and what is known there
 counted : (c : tie.After-c) → let a = c .before .before .before .before .before .args in vetted (a .sheet .now) (a .len) (a .r .number) ≡ accepted (c .c .given .0 .0)
-counted c = sym (c .before .before .vet .ensures) ∙ ap count-of (c .c .given .1)
+counted c = sym (c .before .before .vet .ensures) ∙ ap count-outcome (c .c .given .1)
 
 room : (c : tie.After-c) → let a = c .before .before .before .before .before .args in
     Framed (a .sheet .now) (a .len) (c .c .given .0 .0) × Admitted (a .sheet .now) (a .len) (a .r .number) (c .c .given .0 .0)
@@ -26,7 +26,7 @@ place-record-requires : tie.Need-place-record-requires
 place-record-requires c κs = let p = room (c .before .before) in ((p .0, p .1 .within, p .1 .short), c .before .before .before .before .before .before .before .pre)
 
 returns : tie.Need-returns
-returns c = rw (sym (c .before .before .before .vet .ensures) ∙ ap count-of (c .before .e .given .1)) (refl, refl)
+returns c = rw (sym (c .before .before .before .vet .ensures) ∙ ap count-outcome (c .before .e .given .1)) (refl, refl)
 
 returns-2 : tie.Need-returns-2
 returns-2 c = rw (counted (c .before .before .before .before .before)) (refl, c .before .before .place-record .ensures)

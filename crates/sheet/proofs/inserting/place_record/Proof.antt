@@ -5,7 +5,7 @@ use Prim.Native.Nat.{ℕ, _+_, _-_, _*_}
 use native.Mathlib.Omega.{arith}
 use borrow.Author.Needs.{needs}
 use Rattle.records.specs.Parts.{splice, shifted}
-use Rattle.records.specs.Rows.{key, place}
+use Rattle.records.specs.Rows.{key, rank}
 use Rattle.sheet.specs.declared.Record.{Record}
 use Rattle.sheet.specs.Layout.{record-length, trailer-length, trailer, encoded}
 use Rattle.sheet.specs.Checking.{first, rows}
@@ -15,11 +15,11 @@ use Rattle.sheet.proofs.inserting.place_record.Statement.{statement}
 use Rattle.sheet.proofs.inserting.place_record.Tie as tie
 
 -- the place that was found is that of the record's bytes
-found : (c : tie.After-place-of) → let a = c .before .before .before .args in c .place-of .result ≡ place (key (encoded (a .r))) (rows (a .sheet .now) (a .len) (a .c))
+found : (c : tie.After-place-of) → let a = c .before .before .before .args in c .place-of .result ≡ rank (key (encoded (a .r))) (rows (a .sheet .now) (a .len) (a .c))
 found c =
     let s = c .before .before .before in
     let a = s .args in
-    c .place-of .ensures .0 ∙ ap (λ (x : ℕ). place x (rows (a .sheet .now) (a .len) (a .c))) (sym (key-encoded (a .r) (omega (arith, s .good)) (s .pre .1)))
+    c .place-of .ensures .0 ∙ ap (λ (x : ℕ). rank x (rows (a .sheet .now) (a .len) (a .c))) (sym (key-encoded (a .r) (omega (arith, s .good)) (s .pre .1)))
 
 -- what is written where a place is found
 abbrev written : List ℕ → ℕ → ℕ → Record → ℕ → List ℕ

@@ -5,7 +5,7 @@ use native.Mathlib.Omega.{arith}
 use native.Mathlib.Nat.{le-antisymm}
 use lib.ListN.{length, drop, getD}
 use lib.Seq.{drop-length}
-use Rattle.records.specs.Numbers.{total, packed}
+use Rattle.records.specs.Numbers.{total-width, packed}
 use Rattle.records.specs.Parts.{splice}
 use Rattle.records.proofs.Splices.{splice-nil}
 use Rattle.records.proofs.Steps.{total-more, pack-more}
@@ -14,7 +14,7 @@ use Rattle.sheet.proofs.numbers.pack.Tie as tie
 
 abbrev Inv-loop : tie.InvT-loop
 Inv-loop s₀ at widths values p₀ k₀ s p k =
-    (k ≤ length widths) × (p + total (drop k widths) ≤ length s) × (length s ≡ length s₀)
+    (k ≤ length widths) × (p + total-width (drop k widths) ≤ length s) × (length s ≡ length s₀)
     × (splice s p (packed (drop k widths) (drop k values)) ≡ splice s₀ at (packed widths values))
 
 abbrev μ-loop : tie.MeasureT-loop
@@ -26,7 +26,7 @@ loop-holds c = (omega arith, omega arith, refl, refl)
 -- the field that is next lies within s
 within : (c : tie.In-loop Inv-loop μ-loop) → let l = c .before .loop in
     let ws = c .before .before .before .before .before .args .widths .now in
-    total (drop (l .k) ws) ≡ getD ws (l .k) 0 + total (drop (l .k + 1) ws)
+    total-width (drop (l .k) ws) ≡ getD ws (l .k) 0 + total-width (drop (l .k + 1) ws)
 within c = total-more (c .before .before .before .before .before .args .widths .now) (c .before .loop .k) (c .loop-test .taken)
 
 put-number-requires : tie.Need-put-number-requires Inv-loop μ-loop

@@ -7,14 +7,14 @@ use native.Mathlib.Omega.{arith}
 use native.Mathlib.Nat.{le-antisymm}
 use lib.ListN.{length, take, drop, getD, length-set}
 use lib.Seq.{take-all, drop-length}
-use Rattle.records.specs.Numbers.{total, narrow, unpacked}
+use Rattle.records.specs.Numbers.{total-width, narrow, unpacked}
 use Rattle.records.proofs.Steps.{total-more, narrow-more, unpack-more}
 use Rattle.sheet.proofs.numbers.unpack.Statement.{statement}
 use Rattle.sheet.proofs.numbers.unpack.Tie as tie
 
 abbrev Inv-loop : tie.InvT-loop
 Inv-loop s at widths values₀ p₀ k₀ values p k =
-    (k ≤ length widths) × (p + total (drop k widths) ≤ length s) × (narrow (drop k widths) ≡ true) × (length values ≡ length values₀)
+    (k ≤ length widths) × (p + total-width (drop k widths) ≤ length s) × (narrow (drop k widths) ≡ true) × (length values ≡ length values₀)
     × (take k values ++ unpacked (drop k widths) (drop p s) ≡ unpacked widths (drop at s))
 
 abbrev μ-loop : tie.MeasureT-loop
@@ -26,7 +26,7 @@ loop-holds c = (omega arith, omega arith, c .before .before .before .pre .0 .1, 
 -- the field that is next lies within s, and is narrow
 within : (c : tie.In-loop Inv-loop μ-loop) → let l = c .before .loop in
     let ws = c .before .before .before .before .before .args .widths .now in
-    total (drop (l .k) ws) ≡ getD ws (l .k) 0 + total (drop (l .k + 1) ws)
+    total-width (drop (l .k) ws) ≡ getD ws (l .k) 0 + total-width (drop (l .k + 1) ws)
 within c = total-more (c .before .before .before .before .before .args .widths .now) (c .before .loop .k) (c .loop-test .taken)
 
 slim : (c : tie.In-loop Inv-loop μ-loop) → let l = c .before .loop in

@@ -3,7 +3,7 @@ use mathlib.Core.Path.{_≡_}
 use Prim.Native.Nat.{_+_, _-_, _*_, _≤_}
 use native.Mathlib.Omega.{arith}
 use lib.ListN.{length}
-use Rattle.records.specs.Rows.{records, place}
+use Rattle.records.specs.Rows.{records, rank}
 use Rattle.records.proofs.Rows.{mul-pred}
 use Rattle.records.proofs.Order.{place-here, place-on}
 use Rattle.sheet.proofs.rows.place_of.Statement.{statement}
@@ -11,7 +11,7 @@ use Rattle.sheet.proofs.rows.place_of.Tie as tie
 
 abbrev Inv-loop : tie.InvT-loop
 Inv-loop s first count width v p₀ k₀ p k =
-    (k ≤ count) × (p + width * (count - k) ≤ length s) × (place v (records width s first count) ≡ k + place v (records width s p (count - k)))
+    (k ≤ count) × (p + width * (count - k) ≤ length s) × (rank v (records width s first count) ≡ k + rank v (records width s p (count - k)))
 
 abbrev μ-loop : tie.MeasureT-loop
 μ-loop s first count width v p₀ k₀ p k = count - k
