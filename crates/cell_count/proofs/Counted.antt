@@ -11,11 +11,11 @@ use Rattle.octagon.specs.Cells.{_⊆_, _≐_, Some, In, OnMap, limit}
 use Rattle.octagon.specs.NormalForm.{normalised}
 use Rattle.octagon.proofs.Outcomes.{map-accepted, map-refused}
 use Rattle.octagon.proofs.NormalForms.{accepted-means, accepted-normal, accepted-near, accepted-when, normalised-again}
-use Rattle.cell_count.specs.Count.{without, count, inside, Square}
+use Rattle.cell_count.specs.Count.{without, count, inside, Square, Counted}
 use Rattle.cell_count.specs.Area.{area, cell-count}
 use Rattle.cell_count.proofs.Counts.{count-same, count-most, count-lost, count-some}
 use Rattle.cell_count.proofs.Inside.{inside-is, inside-most, inside-same}
-use Rattle.cell_count.proofs.Formula.{cells-and-corners}
+use Rattle.cell_count.proofs.Formula.{cells-and-cuts}
 use Rattle.cell_count.proofs.Lengths.{near-fits, lengths, rectangle-most}
 
 -- the map is the square of radius `limit`
@@ -26,7 +26,7 @@ map-square o = record { west = o .west; east = o .east; south = o .south; north 
 
 own-area : (c a : Octagon) → normalised c ≡ accepted a → (r : ℕ) → limit ≤ r → area a ≡ count r (inside a)
 unfolding area
-own-area c a e r h = omega (arith, cells-and-corners r a (accepted-normal c a e) (near-fits r a h (accepted-near c a e)))
+own-area c a e r h = omega (arith, cells-and-cuts r a (accepted-normal c a e) (near-fits r a h (accepted-near c a e)))
 
 -- the formula is the number of cells within the bounds, in the map's square and in every larger one
 pub counted : (c a : Octagon) → normalised c ≡ accepted a → (r : ℕ) → limit ≤ r → area a ≡ count r (inside c)
@@ -60,12 +60,6 @@ count-accepted c n = map-accepted (normalised c) area n
 pub count-refused : (c : Octagon) (k : ℕ) → (cell-count c ≡ refused k) ↔ (normalised c ≡ refused k)
 unfolding cell-count
 count-refused c k = map-refused (normalised c) area k
-
--- what an accepted answer n for the bounds c says
-pub record Counted (c : Octagon) (n : ℕ) : Type 0 where
-  pub cells : (r : ℕ) → limit ≤ r → n ≡ count r (inside c)
-  pub some : 1 ≤ n
-  pub fits : n < 2 ^ 32
 
 -- accepted: the number of cells within the bounds, in the map's square and in every larger one; 1 or more, and within 32 bits
 pub count-means : (c : Octagon) (n : ℕ) → cell-count c ≡ accepted n → Counted c n

@@ -1,4 +1,4 @@
--- The cells of an octagon whose sides are nought or more: with those of the four corners they are the rectangle round it.
+-- The cells of an octagon whose sides are nought or more: with those cut off they are the rectangle round it.
 -- Assumes nothing.
 use mathlib.Core.Path.{_≡_, ap}
 use Prim.Native.Nat.{ℕ, suc, _+_, _*_}
@@ -120,7 +120,7 @@ plan-is r c n o = record {
   is-7 = side-is (c .c6) (c .c7) (c .c0) (n .s7);
 }
 
--- the octagon's cells with those of the corners are the rectangle's
-pub cells-and-corners : (r : ℕ) (c : Octagon) → Normal c → Fits r c → count r (inside c) + cuts c ≡ rectangle c
+-- the octagon's cells with those cut off are the rectangle's
+pub cells-and-cuts : (r : ℕ) (c : Octagon) → Normal c → Fits r c → count r (inside c) + cuts c ≡ rectangle c
 unfolding rectangle cuts
-cells-and-corners r c n o = planned r c n o (plan r c) (plan-is r c n o)
+cells-and-cuts r c n o = planned r c n o (plan r c) (plan-is r c n o)

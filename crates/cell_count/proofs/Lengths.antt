@@ -16,7 +16,7 @@ use Rattle.octagon.proofs.Within.{Near}
 use Rattle.octagon.proofs.Sides.{odd-is}
 use Rattle.octagon.proofs.NormalForms.{accepted-normal, accepted-near}
 use Rattle.cell_count.specs.Area.{triangle, extent, rectangle, cut, cuts, MapLength}
-use Rattle.cell_count.proofs.Formula.{Fits, extent-parts, cells-and-corners}
+use Rattle.cell_count.proofs.Formula.{Fits, extent-parts, cells-and-cuts}
 
 -- ---- an accepted octagon
 
@@ -71,7 +71,7 @@ lengths a e =
 
 -- ---- products
 
--- the map's cells and one column more: no product or corner is larger
+-- the map's cells and one column more: no product and no cut is larger
 abbrev pub greatest : ℕ
 greatest = (2 * limit + 1) * (2 * limit + 2)
 
@@ -84,19 +84,19 @@ pub record Small (a : Octagon) : Type 0 where
   pub small5 : cut (a .c4) (a .c5) (a .c6) ≤ greatest
   pub small7 : cut (a .c6) (a .c7) (a .c0) ≤ greatest
 
-corner-most : (b o a : ℤ) → MapLength (odd-side b o a) → cut b o a ≤ greatest
+cut-most : (b o a : ℤ) → MapLength (odd-side b o a) → cut b o a ≤ greatest
 unfolding triangle
-corner-most b o a h =
+cut-most b o a h =
     let n : ℕ = natAbs (odd-side b o a) in
     let l : n ≤ 2 * limit + 1 = length-most (odd-side b o a) h in
     omega (arith, product-most n (n + 1) l (omega arith))
 
 pub small : (a : Octagon) → Lengths a → Small a
 small a l = record {
-  small1 = corner-most (a .c0) (a .c1) (a .c2) (l .side1);
-  small3 = corner-most (a .c2) (a .c3) (a .c4) (l .side3);
-  small5 = corner-most (a .c4) (a .c5) (a .c6) (l .side5);
-  small7 = corner-most (a .c6) (a .c7) (a .c0) (l .side7);
+  small1 = cut-most (a .c0) (a .c1) (a .c2) (l .side1);
+  small3 = cut-most (a .c2) (a .c3) (a .c4) (l .side3);
+  small5 = cut-most (a .c4) (a .c5) (a .c6) (l .side5);
+  small7 = cut-most (a .c6) (a .c7) (a .c0) (l .side7);
 }
 
 pub rectangle-most : (a : Octagon) → Lengths a → rectangle a ≤ greatest
@@ -105,7 +105,7 @@ rectangle-most a l =
     product-most (extent (a .c0) (a .c4)) (extent (a .c6) (a .c2)) (length-most _ (l .height))
     (omega (arith, length-most (a .c6 +ℤ a .c2 +ℤ pos 1) (l .width)))
 
--- the corners are within the rectangle
-pub corners-most : (a : Octagon) → normalised a ≡ accepted a → cuts a ≤ rectangle a
-corners-most a e =
-    omega (arith, cells-and-corners limit a (accepted-normal a a e) (near-fits limit a (omega arith) (accepted-near a a e)))
+-- what is cut off is within the rectangle
+pub cuts-most : (a : Octagon) → normalised a ≡ accepted a → cuts a ≤ rectangle a
+cuts-most a e =
+    omega (arith, cells-and-cuts limit a (accepted-normal a a e) (near-fits limit a (omega arith) (accepted-near a a e)))

@@ -1,5 +1,5 @@
--- A rectangle without its four corners, row by row, in natural numbers: the cells left of each row stand side by side,
--- and all rows with the four corners are the rectangle. Assumes nothing.
+-- A rectangle with four triangles cut off, row by row, in natural numbers: the cells left of each row stand side by side,
+-- and all rows with the four triangles are the rectangle. Assumes nothing.
 use mathlib.Core.Path.{_≡_}
 use mathlib.Core.Bool.{Bool, true}
 use Prim.Native.Nat.{ℕ, suc, _+_, _-_, _*_, _<_, _≤_}
@@ -20,7 +20,7 @@ pub record Plan : Type 0 where
   pub n5 : ℕ
   pub n7 : ℕ
 
--- the corners do not meet
+-- the cuts do not meet
 pub record Apart (z : Plan) : Type 0 where
   pub a13 : z .n3 + z .n1 < z .h
   pub a57 : z .n5 + z .n7 < z .h
@@ -38,7 +38,7 @@ pub record Cell (z : Plan) (i j k : ℕ) : Type 0 where
 
 -- ---- one row
 
--- what an upper and a lower corner take of a row's end: one of the two takes nothing, so the sum is the greater
+-- what an upper and a lower cut take of a row's end: one of the two takes nothing, so the sum is the greater
 abbrev pub cut : ℕ → ℕ → ℕ → ℕ → ℕ
 cut upper lower j k = (upper - k) + (lower - j)
 
@@ -61,7 +61,7 @@ module _ (z : Plan) (a : Apart z) (j k : ℕ) (e : suc (j + k) ≡ z .h) where
   above : (i : ℕ) → Cell z i j k → cut (z .n3) (z .n1) j k ≤ (z .left + z .w) - suc i
   above i c = cut-least (z .n3) (z .n1) j k ((z .left + z .w) - suc i) (omega arith) (omega arith) (omega arith)
 
-  -- the cells of a row, with those that the corners take, are the width
+  -- the cells of a row, with those that the cuts take, are the width
   pub row-cells : (n : ℕ) (t : ℕ → Bool) → z .left + z .w ≤ n → ((i : ℕ) → Cell z i j k → t i ≡ true) → ((i : ℕ) → t i ≡ true → Cell z i j k) →
       sum n (λ i. one (t i)) + (cut (z .n5) (z .n7) j k + cut (z .n3) (z .n1) j k) ≡ z .w
   row-cells n t h f g =
@@ -80,13 +80,13 @@ module _ (z : Plan) (a : Apart z) (j k : ℕ) (e : suc (j + k) ≡ z .h) where
 
 -- ---- all rows
 
--- the cells of the four corners
+-- the cells of the four cuts
 abbrev pub cut-off : Plan → ℕ
 cut-off z = triangle (z .n1) + triangle (z .n3) + (triangle (z .n5) + triangle (z .n7))
 
 module _ (z : Plan) (a : Apart z) (line : ℕ → ℕ)
     (is : (j k : ℕ) → suc (j + k) ≡ z .h → line j + (cut (z .n5) (z .n7) j k + cut (z .n3) (z .n1) j k) ≡ z .w) where
-  -- the rows, with the four corners, are the rectangle
+  -- the rows, with the four cuts, are the rectangle
   pub all-rows : sum (z .h) line + cut-off z ≡ z .h * z .w
   all-rows =
       let h : ℕ = z .h in

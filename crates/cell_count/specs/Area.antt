@@ -20,7 +20,7 @@ extent low high = natAbs (low +ℤ high +ℤ pos 1)
 unfoldable pub rectangle : Octagon → ℕ
 rectangle a = extent (a .c0) (a .c4) * extent (a .c6) (a .c2)
 
--- the cells that a diagonal side cuts off a corner of it: a triangle whose legs are as long as the side
+-- the cells that a diagonal side cuts off it: a triangle whose legs are as long as the side
 abbrev pub cut : ℤ → ℤ → ℤ → ℕ
 cut before own after = triangle (natAbs (odd-side before own after))
 

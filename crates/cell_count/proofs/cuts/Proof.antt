@@ -1,4 +1,4 @@
--- `corners` meets its contract: the sum of four corners fits. Assumes nothing.
+-- `cuts` meets its contract: the sum of four cuts fits. Assumes nothing.
 use mathlib.Core.Path.{_≡_, _∙_, ap}
 use Prim.Native.Nat.{ℕ, _+_}
 use native.Mathlib.Omega.{arith}
@@ -9,8 +9,8 @@ use Rattle.octagon.specs.Widths.{Held}
 use Rattle.octagon.proofs.Fields.{back, back-is}
 use Rattle.cell_count.specs.Area.{cut, cuts}
 use Rattle.cell_count.proofs.Lengths.{Lengths, lengths, Small, small}
-use Rattle.cell_count.proofs.corners.Statement.{statement}
-use Rattle.cell_count.proofs.corners.Tie as tie
+use Rattle.cell_count.proofs.cuts.Statement.{statement}
+use Rattle.cell_count.proofs.cuts.Tie as tie
 
 held : (c : tie.Start) → Held w32 (c .args .a)
 held c = search signs
@@ -29,13 +29,13 @@ add-result : tie.Need-add-result
 add-result c =
     let k1 = c .before in
     let m = each (k1 .before .before .before .before .before .before .before .before .before) in
-    record { fits = omega (arith, k1 .corner .ensures, c .corner2 .ensures, m) }
+    record { fits = omega (arith, k1 .cut .ensures, c .cut2 .ensures, m) }
 
 add-result-2 : tie.Need-add-result-2
 add-result-2 c =
     let k3 = c .before in
     let m = each (k3 .before .before .before .before .before .before .before .before .before .before .before) in
-    record { fits = omega (arith, k3 .corner3 .ensures, c .corner4 .ensures, m) }
+    record { fits = omega (arith, k3 .cut3 .ensures, c .cut4 .ensures, m) }
 
 add-result-3 : tie.Need-add-result-3
 add-result-3 c =
@@ -43,7 +43,7 @@ add-result-3 c =
     let k2 = k3 .before in
     let k1 = k2 .before in
     let m = each (k1 .before .before .before .before .before .before .before .before .before) in
-    record { fits = omega (arith, k1 .corner .ensures, k2 .corner2 .ensures, k3 .corner3 .ensures, c .corner4 .ensures, m) }
+    record { fits = omega (arith, k1 .cut .ensures, k2 .cut2 .ensures, k3 .cut3 .ensures, c .cut4 .ensures, m) }
 
 returns : tie.Need-returns
 unfolding cuts
@@ -52,10 +52,10 @@ returns c =
     let k2 = k3 .before in
     let k1 = k2 .before in
     let s = k1 .before .before .before .before .before .before .before .before .before in
-    total (k1 .corner .ensures) (k2 .corner2 .ensures) (k3 .corner3 .ensures) (c .corner4 .ensures) ∙ ap cuts (back-is w32 (s .args .a) (held s))
+    total (k1 .cut .ensures) (k2 .cut2 .ensures) (k3 .cut3 .ensures) (c .cut4 .ensures) ∙ ap cuts (back-is w32 (s .args .a) (held s))
 
-pub corners-spec : {M : Type 1} → statement M
-corners-spec =
+pub cuts-spec : {M : Type 1} → statement M
+cuts-spec =
     tie.close
     (tie.spec
     (λ c κs. let l = sized (c .before .before .before .before .before .before .before .before) in search needs)
