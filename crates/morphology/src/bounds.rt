@@ -1,10 +1,10 @@
-// Sums and differences of bounds, and the normal form of differences.
+// Sums, differences and multiples of bounds, and the answers that they make.
 ghost use mathlib.Core.Path.{_≡_};
 ghost use lib.IntN.{pos, _+ℤ_, _-ℤ_, _*ℤ_};
 ghost use mir.Syntax.{w32};
 ghost use mir.Val.{SFits};
 ghost use Rattle.octagon.specs.Answers.{outcome};
-ghost use Rattle.octagon.specs.NormalForm.{normalised};
+ghost use Rattle.octagon.specs.NormalForm.{normalised, placed};
 ghost use Rattle.octagon.specs.Widths.{Held};
 ghost use Rattle.morphology.specs.Operations as operations;
 ghost use Rattle.morphology.specs.Folds as folds;
@@ -12,8 +12,10 @@ use crate::NOTHING_LEFT;
 use integers::times;
 use octagon::Answer;
 use octagon::NO_CELL;
+use octagon::OFF_MAP;
 use octagon::Octagon;
 use octagon::normalise;
+use octagon::on_map;
 
 fn add(a: i32, b: i32) -> i32
     requires { ⌜ SFits w32 (a +ℤ b) ⌝ }
@@ -85,6 +87,16 @@ pub fn multiples(n: u32, b: Octagon) -> Octagon
         c6: multiple(n, b.c6),
         c7: multiple(n, b.c7),
     }
+}
+
+// Normalised bounds as an answer: refused where they leave the map.
+pub fn place(o: Octagon) -> Answer
+    ensures { λ r. ⌜ outcome r ≡ placed o ⌝ }
+{
+    if on_map(o.c0 as i64, o.c2 as i64, o.c4 as i64, o.c6 as i64) {
+        return Answer::Octagon(o);
+    }
+    Answer::Refused(OFF_MAP)
 }
 
 // The normal form of differences of bounds: where they hold no cell, no position fits.

@@ -35,7 +35,7 @@ pub fn dilate(plot: Octagon, element: Octagon) -> Answer
     if rows::are_opposed(a, b) {
         return Answer::Refused(OPPOSED_ROWS);
     }
-    octagon::place(bounds::sums(a, b))
+    bounds::place(bounds::sums(a, b))
 }
 
 // The positions at which the whole element stands inside the plot (document 01's trim).
