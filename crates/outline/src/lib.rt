@@ -66,7 +66,7 @@ pub fn to_octagon(o: Outline) -> Answer
     ensures { λ r. ⌜ «octagon-outcome» r ≡ traced o ⌝ }
 {
     if closing::closes(o) {
-        return drawing::placed(drawing::draw(o));
+        return drawing::draw(o);
     }
     Answer::Refused(NOT_CLOSED)
 }
