@@ -16,6 +16,7 @@ mod corner;
 mod drawing;
 pub mod place;
 mod sides;
+pub mod tables;
 mod walk;
 
 // Document 01's outline: the start, its lowest corner and of the lowest the leftmost, and eight side lengths, counter-clockwise.
@@ -43,18 +44,6 @@ pub enum Located {
     Place(Place),
     Refused(u32),
 }
-
-// The steps along the sides, each east and north: document 01's d0 to d7.
-pub const STEPS: [[i32; 2]; 8] = [
-    [1, 0],
-    [1, 1],
-    [0, 1],
-    [-1, 1],
-    [-1, 0],
-    [-1, -1],
-    [0, -1],
-    [1, -1],
-];
 
 // The refusal numbers of document 01 that this crate adds.
 pub const NOT_CLOSED: u32 = 3;
