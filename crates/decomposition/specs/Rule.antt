@@ -7,7 +7,7 @@ use lib.ListN.{getD}
 use Rattle.outline.specs.declared.Outline.{Outline}
 use Rattle.outline.specs.Walk.{side}
 use Rattle.decomposition.specs.declared.Counts.{Counts}
-use Rattle.decomposition.specs.Pieces.{pieces, listed}
+use Rattle.decomposition.specs.Pieces.{outlines, listed}
 
 -- the count of Kp
 abbrev pub count-of-kind : Counts → ℕ → ℕ
@@ -52,7 +52,7 @@ pub record Chosen (o : Outline) (k : Counts) : Type 0 where
   pub row4 : k .k4 ≡ min (o .n3) (o .n7)
   pub no-k13 : k .k13 ≡ 0
   pub two-kinds : TwoKinds k
-  pub all-sides : (m : ℕ) → m < 8 → together (listed k) pieces m ≡ side o m
+  pub all-sides : (m : ℕ) → m < 8 → together (listed k) outlines m ≡ side o m
 
 -- ---- "Last, when k2 and k4 are at least 1 and all other counts are 0, one K2 and one K4 become one K13."
 

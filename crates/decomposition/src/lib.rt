@@ -3,12 +3,12 @@
 // specs/Pieces.antt has the pieces and the set that counted pieces make, specs/Rule.antt document 01's rule for the counts,
 // specs/Splitting.antt what `decompose` answers, proofs/Decompositions.antt the theorems between them.
 ghost use mathlib.Core.Path.{_≡_};
-ghost use lib.ListN.{getD};
 ghost use Rattle.decomposition.specs.Pieces as pieces;
 ghost use Rattle.decomposition.specs.Splitting as splitting;
 use octagon::Octagon;
 use outline::Outline;
 use outline::Outlined;
+use outline::tables::piece_sides;
 use outline::to_outline;
 
 mod counting;
@@ -48,26 +48,9 @@ pub enum Decomposed {
     Refused(u32),
 }
 
-// Document 01's pieces K1 to K13: for each the lengths of its sides along the steps `outline::STEPS`, from (0, 0).
-pub const PIECES: [[u32; 8]; 13] = [
-    [1, 0, 0, 0, 1, 0, 0, 0],
-    [0, 1, 0, 0, 0, 1, 0, 0],
-    [0, 0, 1, 0, 0, 0, 1, 0],
-    [0, 0, 0, 1, 0, 0, 0, 1],
-    [1, 0, 1, 0, 0, 1, 0, 0],
-    [1, 0, 0, 1, 0, 0, 1, 0],
-    [0, 1, 0, 0, 1, 0, 1, 0],
-    [0, 0, 1, 0, 1, 0, 0, 1],
-    [2, 0, 0, 1, 0, 1, 0, 0],
-    [0, 1, 0, 0, 2, 0, 0, 1],
-    [0, 1, 0, 1, 0, 0, 2, 0],
-    [0, 0, 2, 0, 0, 1, 0, 1],
-    [0, 1, 0, 1, 0, 1, 0, 1],
-];
-
 // Eight side lengths as an outline that starts at (0, 0).
 fn from_origin(n: [u32; 8]) -> Outline
-    ensures { λ r. ⌜ r ≡ pieces.from-origin (λ m. getD n m 0) ⌝ }
+    ensures { λ r. ⌜ r ≡ pieces.from-origin n ⌝ }
 {
     Outline {
         i: 0,
@@ -87,10 +70,7 @@ fn from_origin(n: [u32; 8]) -> Outline
 pub fn piece(k: usize) -> Outline
     ensures { λ r. ⌜ r ≡ pieces.piece-of k ⌝ }
 {
-    if k < 13 {
-        return from_origin(PIECES[k]);
-    }
-    from_origin([0; 8])
+    from_origin(piece_sides(k))
 }
 
 // The start cell of an outline, and the counts of the pieces that make it.

@@ -1,5 +1,6 @@
--- What the contracts on outlines cite: closing, the walk, the octagon of an outline and the outline of an octagon, places in metres.
+-- What the contracts on outlines cite: closing, the tables of steps and pieces, the walk, the octagon of an outline and the outline of an octagon, places in metres.
 pub mod Closing
+pub mod Tables
 pub mod Walk
 pub mod Tracing
 pub mod Outlining

@@ -1,26 +1,16 @@
 -- The walk round an outline and the cells inside it, in the words of document 01. This file is what a reader must believe of outlines.
 -- Assumes nothing.
-use mathlib.Core.List.{List, [], _∷_}
+use mathlib.Core.List.{[], _∷_}
 use Prim.Native.Nat.{ℕ, zero, suc, _<_}
-use lib.IntN.{ℤ, pos, negsuc, _+ℤ_, _-ℤ_, _*ℤ_}
+use lib.IntN.{ℤ, pos, _+ℤ_, _-ℤ_, _*ℤ_}
 use lib.ListN.{getD}
 use lib.Signed.{_≤ℤ_}
 use Rattle.octagon.specs.Cells.{Cells}
 use Rattle.outline.specs.declared.Outline.{Outline}
 use Rattle.outline.specs.declared.walk.Cell.{Cell}
+use Rattle.outline.specs.Tables.{steps}
 
--- the steps d0 to d7, each east and north, counter-clockwise
-abbrev pub steps : List (List ℤ)
-steps =
-    (pos 1 ∷ pos 0 ∷ []) ∷
-    (pos 1 ∷ pos 1 ∷ []) ∷
-    (pos 0 ∷ pos 1 ∷ []) ∷
-    (negsuc 0 ∷ pos 1 ∷ []) ∷
-    (negsuc 0 ∷ pos 0 ∷ []) ∷
-    (negsuc 0 ∷ negsuc 0 ∷ []) ∷
-    (pos 0 ∷ negsuc 0 ∷ []) ∷
-    (pos 1 ∷ negsuc 0 ∷ []) ∷ []
-
+-- how far a step along d(k) goes east, and how far north
 abbrev pub east : ℕ → ℤ
 east k = getD (getD steps k []) 0 (pos 0)
 

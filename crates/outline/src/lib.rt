@@ -16,6 +16,7 @@ mod corner;
 mod drawing;
 pub mod place;
 mod sides;
+pub mod tables;
 mod walk;
 
 // Document 01's outline: the start, its lowest corner and of the lowest the leftmost, and eight side lengths, counter-clockwise.
@@ -44,18 +45,6 @@ pub enum Located {
     Refused(u32),
 }
 
-// The steps along the sides, each east and north: document 01's d0 to d7.
-pub const STEPS: [[i32; 2]; 8] = [
-    [1, 0],
-    [1, 1],
-    [0, 1],
-    [-1, 1],
-    [-1, 0],
-    [-1, -1],
-    [0, -1],
-    [1, -1],
-];
-
 // The refusal numbers of document 01 that this crate adds.
 pub const NOT_CLOSED: u32 = 3;
 
@@ -66,7 +55,7 @@ pub fn to_octagon(o: Outline) -> Answer
     ensures { λ r. ⌜ «octagon-outcome» r ≡ traced o ⌝ }
 {
     if closing::closes(o) {
-        return drawing::placed(drawing::draw(o));
+        return drawing::draw(o);
     }
     Answer::Refused(NOT_CLOSED)
 }

@@ -6,7 +6,7 @@ ghost use mir.Syntax.{w64};
 ghost use mir.Val.{SFits};
 ghost use Rattle.outline.specs.Walk as walk;
 use crate::Outline;
-use crate::STEPS;
+use crate::tables::STEPS;
 
 // Document 01's cell.
 pub struct Cell {
