@@ -19,7 +19,8 @@ use Rattle.sheet.specs.Layout.{record-length, layout, decoded}
 use Rattle.sheet.specs.Checking.{first, rows, checked}
 use Rattle.sheet.proofs.RecordBytes.{decoded-at, field-below}
 use Rattle.sheet.proofs.Checks.{checked-known}
-use Rattle.sheet.proofs.CheckCases.{Faulty, wrong-number, open-outline, off-outline, later, Checking, wrong-size, unmarked, misplaced, faulty, right, checking}
+use Rattle.sheet.specs.Cases.{Faulty, wrong-number, open-outline, off-outline, later, CheckCase, wrong-size, unmarked, misplaced, faulty, right}
+use Rattle.sheet.proofs.CheckCases.{check-case}
 use Rattle.report.specs.Text.{ascii}
 use Rattle.report.specs.Decimal.{decimal, sign, signed-decimal}
 use Rattle.report.specs.Lines.{spaced, line, heading-line, row-line, last-line, refused-line}
@@ -144,7 +145,7 @@ fault-small (open-outline h f) = omega arith
 fault-small (off-outline h k f) = omega arith
 fault-small (later h t f) = fault-small f
 
-refusal-small : {s : List ℕ} {len : ℕ} {o : Outcome ℕ} (e : ℕ) → Checking s len o → o ≡ refused e → e ≤ 11
+refusal-small : {s : List ℕ} {len : ℕ} {o : Outcome ℕ} (e : ℕ) → CheckCase s len o → o ≡ refused e → e ≤ 11
 refusal-small e (wrong-size h) q = omega (arith, refused-same q)
 refusal-small e (unmarked z h) q = omega (arith, refused-same q)
 refusal-small e (misplaced z m h) q = omega (arith, refused-same q)
@@ -171,4 +172,4 @@ listing-fits s len b = go (checked s len) refl
   where
     go : (o : Outcome ℕ) → checked s len ≡ o → length (text-of s len o) ≤ text-limit
     go (accepted c) e = full-length s len c b e
-    go (refused k) e = omega (arith, refused-length k (omega (arith, refusal-small k (checking s len) e)))
+    go (refused k) e = omega (arith, refused-length k (omega (arith, refusal-small k (check-case s len) e)))

@@ -17,10 +17,10 @@ use Rattle.records.proofs.Order.{rising-placed}
 use Rattle.sheet.specs.declared.Record.{Record}
 use Rattle.sheet.specs.Layout.{record-length, trailer-length, encoded, Fits}
 use Rattle.sheet.specs.Checking.{Framed, first, rows, checked}
+use Rattle.sheet.specs.Cases.{HasOctagon}
 use Rattle.sheet.specs.Writing.{vetted, insertion, inserted, grown, after-insert}
 use Rattle.sheet.proofs.RecordBytes.{length-encoded, decoded-encoded, key-encoded}
 use Rattle.sheet.proofs.Outlines.{accepted-fits}
-use Rattle.sheet.proofs.Surveys.{Traced}
 use Rattle.sheet.proofs.Checks.{checked-good, checked-known}
 use Rattle.sheet.proofs.Sheets.{sheet}
 use Rattle.sheet.proofs.Inserts.{Admitted, vetted-passed}
@@ -63,7 +63,7 @@ module _ (s : List ℕ) (len : ℕ) (r : Record) (c : ℕ) (n : r .number < 256 
   pub new-fits : Fits (r .outline)
   new-fits = accepted-fits (r .outline) (t .outline .0) (t .outline .1)
 
-  new-traced : Traced (encoded r)
+  new-traced : HasOctagon (encoded r)
   new-traced = (t .outline .0, ap (λ (x : Record). traced (x .outline)) (decoded-encoded r n new-fits) ∙ t .outline .1)
 
   new-key : key (encoded r) ≡ r .number
@@ -82,7 +82,7 @@ module _ (s : List ℕ) (len : ℕ) (r : Record) (c : ℕ) (n : r .number < 256 
   pub new-length : len + record-length ≡ length (take (first len c) s) + record-length * (c + 1) + trailer-length
   new-length = omega (arith, known, new-front, mul-more record-length c)
 
-  pub new-rising : Ascending Traced 0 (put-in-order (encoded r) (rows s len c))
+  pub new-rising : Ascending HasOctagon 0 (put-in-order (encoded r) (rows s len c))
   new-rising =
       rising-placed (encoded r) (omega (arith, new-key, t .admitted)) new-traced (rw new-key (t .admitted .new))
       (checked-good s len c (t .sheet-is) .records)

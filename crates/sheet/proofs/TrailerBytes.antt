@@ -11,7 +11,7 @@ use Rattle.records.specs.Parts.{part}
 use Rattle.records.proofs.Numbers.{Bytes, drop-bytes}
 use Rattle.records.proofs.Fields.{Fit, none, more, length-packed, unpacked-packed, packed-unpacked, unpacked-take}
 use Rattle.sheet.specs.Layout.{record-length, trailer-length, trailer-layout, letters, trailer-values, trailer, trailer-from, trailer-at}
-use Rattle.sheet.proofs.Frames.{Marked}
+use Rattle.sheet.specs.Cases.{GoodMarks}
 
 pub length-trailer : (n : ℕ) → length (trailer n) ≡ trailer-length
 unfolding trailer
@@ -65,7 +65,7 @@ last-three s t =
     (ap (λ (v : List ℕ). getD v 0 0) f, ap (λ (v : List ℕ). getD v 1 0) f, ap (λ (v : List ℕ). getD v 2 0) f)
 
 -- the marks are right exactly where the last eight bytes of the trailer are these
-pub marked-bytes : (s : List ℕ) (t : ℕ) → Bytes s → t + trailer-length ≤ length s → Marked (trailer-at s t) ↔ (part s (t + 8) 8 ≡ marks)
+pub marked-bytes : (s : List ℕ) (t : ℕ) → Bytes s → t + trailer-length ≤ length s → GoodMarks (trailer-at s t) ↔ (part s (t + 8) 8 ≡ marks)
 marked-bytes s t b h =
     let y = drop (t + 8) s in
     let e = last-three s t in (

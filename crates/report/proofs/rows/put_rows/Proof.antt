@@ -10,7 +10,7 @@ use Rattle.octagon.proofs.Outcomes.{accepted-same, accepted-not-refused}
 use Rattle.sheet.specs.declared.Record.{Record}
 use Rattle.sheet.specs.Answers.{record-outcome}
 use Rattle.sheet.specs.Checking.{read}
-use Rattle.sheet.proofs.Checks.{read-checked}
+use Rattle.sheet.proofs.ReadCases.{read-checked}
 use Rattle.report.specs.Listing.{plots, rows-of, total-cells}
 use Rattle.report.proofs.Writing.{put-length, put-nothing, Left, left-all}
 use Rattle.report.proofs.Plots.{plot, length-plots, fetched-plot, total-most, rest, row-room, row-more, total-more, rest-end, total-end}
