@@ -1,18 +1,18 @@
 -- The check of a sheet from its frame and its records, and the record that is fetched or read. Assumes nothing.
-use mathlib.Core.Path.{_≡_, refl, sym, ap, _∙_}
+use mathlib.Core.Path.{_≡_, sym, ap, _∙_}
 use mathlib.Core.Bool.{true, false}
 use mathlib.Core.List.{List, []}
 use Prim.Native.Nat.{ℕ, _-_, _≤_, _<_}
 use lib.ListN.{getD}
 use borrow.Author.Tests.{lt-ltb, le-ltb}
-use Rattle.octagon.specs.Outcome.{Outcome, accepted, refused}
-use Rattle.octagon.proofs.Outcomes.{accepted-not-refused}
+use Rattle.octagon.specs.Outcome.{accepted, refused}
+use Rattle.octagon.proofs.Outcomes.{then-accepted}
 use Rattle.records.specs.Rows.{Ascending}
 use Rattle.sheet.specs.Layout.{trailer-length, trailer-at, decoded}
 use Rattle.sheet.specs.Answers.{bad-length, bad-trailer, bad-distance, no-record}
-use Rattle.sheet.specs.Checking.{is-bad-length, has-bad-marks, is-bad-distance, stated, framed, Framed, rows, surveyed, checked, fetched}
+use Rattle.sheet.specs.Checking.{is-bad-length, has-bad-marks, is-bad-distance, stated, framed, HoldsRecords, rows, surveyed, checked, fetched}
 use Rattle.sheet.specs.Cases.{HasOctagon}
-use Rattle.sheet.proofs.Frames.{framed-known}
+use Rattle.sheet.proofs.Frames.{framed-holds}
 use Rattle.sheet.proofs.Surveys.{surveyed-when, surveyed-passed}
 
 -- ---- the frame first, and then the records
@@ -49,16 +49,14 @@ pub checked-when : (s : List ℕ) (len c : ℕ) → Good s len c → checked s l
 checked-when s len c g = checked-rows s len (g .frame) ∙ surveyed-when c (g .records)
 
 pub checked-good : (s : List ℕ) (len c : ℕ) → checked s len ≡ accepted c → Good s len c
-checked-good s len c e = go (framed s len) refl
-  where
-    go : (o : Outcome ℕ) → framed s len ≡ o → Good s len c
-    go (refused k) q = absurd (accepted-not-refused (sym e ∙ checked-frame s len q))
-    go (accepted n) q =
-        let p = surveyed-passed n c 0 (rows s len n) (sym (checked-rows s len q) ∙ e) in
-        record { frame = q ∙ ap accepted (sym (p .1)); records = rw (← p .1) at (p .0) }
+unfolding checked
+checked-good s len c e =
+    let t = then-accepted (framed s len) (λ n. surveyed n 0 (rows s len n)) c e in
+    let p = surveyed-passed (t .between) c 0 (rows s len (t .between)) (t .second) in
+    record { frame = t .first ∙ ap accepted (sym (p .1)); records = rw (← p .1) at (p .0) }
 
-pub checked-known : (s : List ℕ) (len c : ℕ) → checked s len ≡ accepted c → Framed s len c
-checked-known s len c e = framed-known s len c (checked-good s len c e .frame)
+pub checked-holds : (s : List ℕ) (len c : ℕ) → checked s len ≡ accepted c → HoldsRecords s len c
+checked-holds s len c e = framed-holds s len c (checked-good s len c e .frame)
 
 -- ---- fetching
 

@@ -14,7 +14,7 @@ use Rattle.records.proofs.Order.{or-false}
 use Rattle.sheet.specs.declared.trailer.Trailer.{Trailer}
 use Rattle.sheet.specs.Layout.{sheet-limit, record-length, trailer-length, letters, trailer-at}
 use Rattle.sheet.specs.Answers.{bad-length, bad-trailer, bad-distance}
-use Rattle.sheet.specs.Checking.{is-bad-length, has-bad-marks, is-bad-distance, stated, framed, Framed}
+use Rattle.sheet.specs.Checking.{is-bad-length, has-bad-marks, is-bad-distance, stated, framed, HoldsRecords}
 use Rattle.sheet.specs.Cases.{GoodLength, GoodMarks, GoodDistance, GoodFrame}
 
 -- ---- the length
@@ -78,8 +78,8 @@ framed-when s len c h =
     rw (passes-length s len (h .size), passes-marks z (h .marks), passes-distance len z (h .distance), h .count)
 
 -- where the records of an accepted frame stand
-pub framed-known : (s : List ℕ) (len c : ℕ) → framed s len ≡ accepted c → Framed s len c
-framed-known s len c e =
+pub framed-holds : (s : List ℕ) (len c : ℕ) → framed s len ≡ accepted c → HoldsRecords s len c
+framed-holds s len c e =
     let f = framed-sound s len c e in
     let z = f .size in
     let n = f .distance in

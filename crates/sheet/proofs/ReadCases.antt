@@ -1,4 +1,4 @@
--- Read a record where a check has counted the records: each answer is given exactly where its case holds, and of a sheet that
+-- NumberFrom a record where a check has counted the records: each answer is given exactly where its case holds, and of a sheet that
 -- checks it is what `fetch` answers. Assumes nothing.
 use mathlib.Core.Path.{_≡_, sym, ap, _∙_}
 use mathlib.Core.Bool.{true, false}
@@ -19,7 +19,7 @@ use Rattle.sheet.specs.Answers.{bad-length, bad-distance, no-record}
 use Rattle.sheet.specs.Checking.{is-bad-length, first, rows, checked, fetched, read}
 use Rattle.sheet.specs.Cases.{ReadCase, no-sheet, too-many, past-last, there}
 use Rattle.sheet.proofs.Frames.{good-length, passes-length}
-use Rattle.sheet.proofs.Checks.{checked-known, fetched-row, fetched-none}
+use Rattle.sheet.proofs.Checks.{checked-holds, fetched-row, fetched-none}
 
 -- ---- each answer, from the tests
 
@@ -70,7 +70,7 @@ module _ (s : List ℕ) (len c k : ℕ) where
 -- of a sheet that checks, `read` answers what `fetch` does
 pub read-checked : (s : List ℕ) (len c k : ℕ) → checked s len ≡ accepted c → read s len c k ≡ fetched s len k
 read-checked s len c k e =
-    let f = checked-known s len c e in
+    let f = checked-holds s len c e in
     let a = passes-length s len (record { long = omega (arith, f .long); short = f .short; within = f .within }) in
     let l : record-length * c ≤ len - trailer-length = omega (arith, f .long) in
     cases (ltb k c)

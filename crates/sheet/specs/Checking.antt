@@ -34,7 +34,7 @@ unfoldable pub framed : List ℕ → ℕ → Outcome ℕ
 framed s len = cond (is-bad-length s len) (refused bad-length) (stated len (trailer-at s (len - trailer-length)))
 
 -- what is known of a sheet of len bytes with c records, where that is accepted
-pub record Framed (s : List ℕ) (len c : ℕ) : Type 0 where
+pub record HoldsRecords (s : List ℕ) (len c : ℕ) : Type 0 where
   pub within : len ≤ length s
   pub short : len ≤ sheet-limit
   pub long : record-length * c + trailer-length ≤ len
