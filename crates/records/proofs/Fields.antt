@@ -5,9 +5,9 @@ use Prim.Native.Nat.{ℕ, zero, suc, _-_, _^_, _≤_, _<_}
 use native.Mathlib.Omega.{arith}
 use lib.ListN.{length, take, drop, getD, length-append, length-drop}
 use lib.Seq.{take-at, drop-at, take-add, take-take}
-use Rattle.records.specs.Numbers.{number, bytes, total-width, packed, unpacked}
+use Rattle.records.specs.Numbers.{Bytes, number, bytes, total-width, packed, unpacked}
 use Rattle.records.proofs.Parts.{between-part}
-use Rattle.records.proofs.Numbers.{Bytes, drop-bytes, number-take, length-bytes, number-bytes, bytes-number}
+use Rattle.records.proofs.Numbers.{drop-bytes, number-take, length-bytes, number-bytes, bytes-number}
 
 -- as many numbers as fields, each within its width
 pub data Fit : List ℕ → List ℕ → Type 0 where

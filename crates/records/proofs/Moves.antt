@@ -29,9 +29,9 @@ shift-one s t g i j e h k =
     rw (e₁, e₀) (set-at p x (r ++ q) v (j + g) (length-take-le (j + g) s (omega arith)) ∙ rw (slice-cons j t s 0 h (omega arith), append-assoc))
 
 -- the room is filled
-pub open-is : (s : List ℕ) (f t : ℕ) (p : List ℕ) → f ≤ t → t + length p ≤ length s → splice (shifted s f t (length p)) f p ≡ put-in s f t p
+pub put-in-is : (s : List ℕ) (f t : ℕ) (p : List ℕ) → f ≤ t → t + length p ≤ length s → splice (shifted s f t (length p)) f p ≡ put-in s f t p
 unfolding splice shifted put-in
-open-is s f t p h k =
+put-in-is s f t p h k =
     let g = length p in
     let a = take (f + g) s in
     let b = between s f t ++ drop (t + g) s in
@@ -40,10 +40,10 @@ open-is s f t p h k =
     rw (append-assoc a, e₁, drop-at a b (f + g) n) (simp append-assoc)
 
 -- and z put after what was moved
-pub close-is : (s : List ℕ) (f t : ℕ) (p z : List ℕ) → f ≤ t → t + length p + length z ≤ length s
+pub put-after : (s : List ℕ) (f t : ℕ) (p z : List ℕ) → f ≤ t → t + length p + length z ≤ length s
     → splice (put-in s f t p) (t + length p) z ≡ take f s ++ (p ++ between s f t) ++ z ++ drop (t + length p + length z) s
 unfolding splice put-in
-close-is s f t p z h k =
+put-after s f t p z h k =
     let m = t + length p in
     let a = take f s ++ (p ++ between s f t) in
     let q = drop m s in

@@ -13,7 +13,7 @@ use lib.Signed.{mag}
 use borrow.Author.Tests.{lt-ltb, le-ltb}
 use Rattle.integers.proofs.Tests.{cases}
 use Rattle.integers.proofs.Parts.{up, dn, diff-parts, parts-eq}
-use Rattle.records.specs.Numbers.{number, bytes, signed, twos}
+use Rattle.records.specs.Numbers.{Bytes, number, bytes, signed, twos}
 use Rattle.records.specs.Parts.{part}
 
 -- ---- reading
@@ -24,10 +24,6 @@ part-suc s at n h = rw (add-one at, drop-cons s at 0 h)
 
 pub number-suc : (s : List ℕ) (at n : ℕ) → at < length s → number (part s at (suc n)) ≡ getD s at 0 + 256 * number (part s (at + 1) n)
 number-suc s at n h = ap number (part-suc s at n h)
-
--- each element is a byte
-abbrev pub Bytes : List ℕ → Type 0
-Bytes s = (i : ℕ) → getD s i 0 < 256
 
 tail-bytes : (b : ℕ) (s : List ℕ) → Bytes (b ∷ s) → Bytes s
 tail-bytes b s h i = h (suc i)

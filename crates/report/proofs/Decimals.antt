@@ -10,7 +10,7 @@ use lib.IntN.{ℤ, pos, negsuc, negℤ}
 use lib.ListN.{length, getD, length-append, List·getD-append}
 use borrow.Author.Tests.{lt-ltb, le-ltb, ltb-true, ltb-false, ne-eqb}
 use Rattle.integers.proofs.Tests.{cases}
-use Rattle.report.specs.Decimal.{digit, digits, decimal, value-after, value, minus, signed-decimal, integer}
+use Rattle.report.specs.Decimal.{digit, digits, Digits, none, more, decimal, value-after, value, minus, signed-decimal, integer}
 
 -- ---- one digit, and one digit more
 
@@ -51,22 +51,18 @@ by-digits P one more n = go n n (omega arith)
 
 -- ---- the number again
 
-read-last : (v : ℕ) (s : List ℕ) (b : ℕ) → value-after v (s ++ (b ∷ [])) ≡ value-after v s * 10 + (b - 48)
-read-last v [] b = refl
-read-last v (a ∷ s) b = read-last (v * 10 + (a - 48)) s b
+value-after-last : (v : ℕ) (s : List ℕ) (b : ℕ) → value-after v (s ++ (b ∷ [])) ≡ value-after v s * 10 + (b - 48)
+value-after-last v [] b = refl
+value-after-last v (a ∷ s) b = value-after-last (v * 10 + (a - 48)) s b
 
 pub value-decimal : (n : ℕ) → value (decimal n) ≡ n
 unfolding value
 value-decimal =
     by-digits (λ n. value-after 0 (decimal n) ≡ n)
     (λ n h. rw (decimal-one n h) (omega arith))
-    (λ n h r. rw (decimal-more n h, read-last 0 (decimal (n / 10)) (digit (n % 10)), r) (omega arith))
+    (λ n h r. rw (decimal-more n h, value-after-last 0 (decimal (n / 10)) (digit (n % 10)), r) (omega arith))
 
 -- ---- digits and nothing else
-
-pub data Digits : List ℕ → Type 0 where
-  none : Digits []
-  more : {b : ℕ} {s : List ℕ} → 48 ≤ b → b ≤ 57 → Digits s → Digits (b ∷ s)
 
 last-digit : {s : List ℕ} (d : ℕ) → d < 10 → Digits s → Digits (s ++ (digit d ∷ []))
 last-digit d h none = more {b = digit d} (omega arith) (omega arith) none
@@ -107,16 +103,16 @@ length-decimal (suc k) n l h =
     next zero b h r = absurd (omega (arith, pow-zero 10))
     next (suc k) b h r = omega (arith, r (omega arith) (omega arith))
 
-read-below : (v : ℕ) {s : List ℕ} → Digits s → value-after v s < (v + 1) * 10 ^ length s
-read-below v none = omega (arith, pow-zero 10)
-read-below v (more {b = b} {s = s} l m r) =
+value-after-below : (v : ℕ) {s : List ℕ} → Digits s → value-after v s < (v + 1) * 10 ^ length s
+value-after-below v none = omega (arith, pow-zero 10)
+value-after-below v (more {b = b} {s = s} l m r) =
     rw (pow-succ' 10 (length s), ← mul-assoc (v + 1) 10 (10 ^ length s))
-    (lt-of-lt-of-le (read-below (v * 10 + (b - 48)) r) (mul-le-mul-right (10 ^ length s) (omega arith)))
+    (lt-of-lt-of-le (value-after-below (v * 10 + (b - 48)) r) (mul-le-mul-right (10 ^ length s) (omega arith)))
 
 -- no digits that stand for n are fewer
 pub decimal-fewest : (s : List ℕ) → Digits s → 0 < length s → length (decimal (value s)) ≤ length s
 unfolding value
-decimal-fewest s d h = length-decimal (length s) (value-after 0 s) h (omega (arith, read-below 0 d))
+decimal-fewest s d h = length-decimal (length s) (value-after 0 s) h (omega (arith, value-after-below 0 d))
 
 -- ---- signed numbers
 
@@ -126,7 +122,7 @@ integer-unsigned none h = absurd (omega arith)
 integer-unsigned (more {b = b} {s = s} l m d) h = rw (ne-eqb b minus (λ e. omega (arith, e)), integer)
 
 -- the number again
-pub integer-signed : (z : ℤ) → integer (signed-decimal z) ≡ z
+pub integer-signed-decimal : (z : ℤ) → integer (signed-decimal z) ≡ z
 unfolding signed-decimal integer
-integer-signed (pos n) = integer-unsigned (decimal-digits n) (decimal-some n) ∙ ap pos (value-decimal n)
-integer-signed (negsuc n) = ap (λ (m : ℕ). negℤ (pos m)) (value-decimal (suc n))
+integer-signed-decimal (pos n) = integer-unsigned (decimal-digits n) (decimal-some n) ∙ ap pos (value-decimal n)
+integer-signed-decimal (negsuc n) = ap (λ (m : ℕ). negℤ (pos m)) (value-decimal (suc n))

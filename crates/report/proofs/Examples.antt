@@ -14,7 +14,7 @@ use Rattle.outline.specs.Closing.{closes}
 use Rattle.outline.specs.Tracing.{bounds-at, drawn, traced}
 use Rattle.records.specs.Numbers.{signed, twos}
 use Rattle.sheet.specs.Checking.{stated, framed, judged, surveyed, checked}
-use Rattle.report.specs.Text.{ascii}
+use Rattle.records.specs.Text.{ascii}
 use Rattle.report.specs.Decimal.{decimal, signed-decimal as signed-text}
 use Rattle.report.specs.Lines.{heading-line, row-line, last-line, refused-line}
 use Rattle.report.specs.Listing.{cell-number, plots, row-of, full, listing}

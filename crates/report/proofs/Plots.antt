@@ -19,7 +19,7 @@ use Rattle.sheet.specs.Checking.{first, rows, checked, fetched}
 use Rattle.sheet.proofs.Checks.{fetched-row}
 use Rattle.report.specs.Lines.{row-line, Put}
 use Rattle.report.specs.Listing.{or-nought, cell-number, plots, row-of, rows-of, total-cells}
-use Rattle.report.proofs.Writing.{Left, left-more, left-room}
+use Rattle.report.proofs.Writing.{ToPut, to-put-more, to-put-room}
 
 -- ---- the records
 
@@ -52,9 +52,9 @@ cells-most o = go (traced o)
     go (accepted a) = count-most a
     go (refused k) = omega arith
 
-pub total-most : (rs : List Record) → total-cells rs ≤ length rs * 4294967295
-total-most [] = omega arith
-total-most (r ∷ rs) = omega (arith, cells-most (r .outline), total-most rs)
+pub total-cells-most : (rs : List Record) → total-cells rs ≤ length rs * 4294967295
+total-cells-most [] = omega arith
+total-cells-most (r ∷ rs) = omega (arith, cells-most (r .outline), total-cells-most rs)
 
 -- ---- the rows from the k-th on
 
@@ -66,18 +66,18 @@ module _ (rs : List Record) (k : ℕ) (h : k < length rs) (r : Record) (e : r �
   unfolding row-of
   rest-more = rw (drop-cons rs k (decoded []) h, add-one k, f, e)
 
-  pub row-room : {s w t : List ℕ} {at m : ℕ} → Left s at w t m (rest rs k) → m + length (row-line r n) ≤ length t
-  row-room l = left-room (row-line r n) (rest rs (k + 1)) (rw rest-more at l)
+  pub row-room : {s w t : List ℕ} {at m : ℕ} → ToPut s at w t m (rest rs k) → m + length (row-line r n) ≤ length t
+  row-room l = to-put-room (row-line r n) (rest rs (k + 1)) (rw rest-more at l)
 
-  pub row-more : {s w t u : List ℕ} {at m next : ℕ} → Left s at w t m (rest rs k) → Put t m (row-line r n) u next → Left s at w u next (rest rs (k + 1))
-  row-more l p = left-more (row-line r n) (rest rs (k + 1)) (rw rest-more at l) p
+  pub row-more : {s w t u : List ℕ} {at m next : ℕ} → ToPut s at w t m (rest rs k) → Put t m (row-line r n) u next → ToPut s at w u next (rest rs (k + 1))
+  row-more l p = to-put-more (row-line r n) (rest rs (k + 1)) (rw rest-more at l) p
 
-  pub total-more : total-cells (drop k rs) ≡ n + total-cells (drop (k + 1) rs)
-  total-more = rw (drop-cons rs k (decoded []) h, add-one k, f, e)
+  pub total-cells-more : total-cells (drop k rs) ≡ n + total-cells (drop (k + 1) rs)
+  total-cells-more = rw (drop-cons rs k (decoded []) h, add-one k, f, e)
 
 -- none is left
 pub rest-end : (rs : List Record) (k : ℕ) → length rs ≤ k → rest rs k ≡ []
 rest-end rs k h = rw (drop-of-length-le rs h)
 
-pub total-end : (rs : List Record) (k : ℕ) → length rs ≤ k → total-cells (drop k rs) ≡ 0
-total-end rs k h = rw (drop-of-length-le rs h)
+pub total-cells-end : (rs : List Record) (k : ℕ) → length rs ≤ k → total-cells (drop k rs) ≡ 0
+total-cells-end rs k h = rw (drop-of-length-le rs h)

@@ -6,7 +6,7 @@ use lib.IntN.{ℤ}
 use lib.ListN.{length, take}
 use Rattle.records.specs.Parts.{splice}
 use Rattle.sheet.specs.declared.Record.{Record}
-use Rattle.report.specs.Text.{ascii}
+use Rattle.records.specs.Text.{ascii}
 use Rattle.report.specs.Decimal.{decimal, signed-decimal}
 
 -- ---- lines

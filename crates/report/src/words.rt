@@ -58,7 +58,7 @@ fn put_sign(text: &mut [u8], at: usize, z: i32) -> usize
 }
 
 // A signed number.
-fn put_signed(text: &mut [u8], at: usize, z: i32) -> usize
+fn put_signed_decimal(text: &mut [u8], at: usize, z: i32) -> usize
     requires { ⌜ at + length («signed-decimal» z) ≤ length (now text) ⌝ }
     ensures { λ r. ⌜ Put (now (text .entry)) at («signed-decimal» z) (now (text .exit)) r ⌝ }
 {
@@ -72,7 +72,7 @@ pub fn put_integer(text: &mut [u8], at: usize, z: i32) -> usize
     ensures { λ r. ⌜ Put (now (text .entry)) at (space ∷ «signed-decimal» z) (now (text .exit)) r ⌝ }
 {
     text[at] = SPACE;
-    put_signed(text, at + 1, z)
+    put_signed_decimal(text, at + 1, z)
 }
 
 // A space and a number.

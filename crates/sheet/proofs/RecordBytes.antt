@@ -5,10 +5,10 @@ use Prim.Native.Nat.{ℕ, _+_, _^_, _<_}
 use native.Mathlib.Omega.{arith}
 use lib.ListN.{length, take, drop, getD}
 use lib.Seq.{take-all, drop-drop}
-use Rattle.records.specs.Numbers.{number, twos, total-width, packed, unpacked}
+use Rattle.records.specs.Numbers.{Bytes, number, twos, total-width, packed, unpacked}
 use Rattle.records.specs.Parts.{part}
 use Rattle.records.specs.Rows.{key-width, key}
-use Rattle.records.proofs.Numbers.{Bytes, drop-bytes, number-take, signed-twos, twos-below, twos-signed}
+use Rattle.records.proofs.Numbers.{drop-bytes, number-take, signed-twos, twos-below, twos-signed}
 use Rattle.records.proofs.Fields.{Fit, none, more, length-packed, unpacked-all, packed-unpacked, unpacked-take, unpacked-fit, fit-at}
 use Rattle.sheet.specs.declared.Record.{Record}
 use Rattle.sheet.specs.Layout.{record-length, start-width, layout, values, outline-from, record-from, encoded, decoded, Fits}
@@ -32,12 +32,12 @@ decoded-at s at = ap record-from (unpacked-take layout (drop at s) record-length
 pub after-number : (s : List ℕ) (at : ℕ) → unpacked (drop 1 layout) (drop (at + key-width) s) ≡ drop 1 (unpacked layout (drop at s))
 after-number s at = ap (unpacked (drop 1 layout)) (sym (drop-drop key-width at s))
 
-pub read-outline : (s : List ℕ) (at : ℕ) → outline-from (drop 1 (unpacked layout (drop at s))) ≡ decoded (part s at record-length) .outline
-read-outline s at = ap (λ (r : Record). r .outline) (sym (decoded-at s at))
+pub outline-decoded : (s : List ℕ) (at : ℕ) → outline-from (drop 1 (unpacked layout (drop at s))) ≡ decoded (part s at record-length) .outline
+outline-decoded s at = ap (λ (r : Record). r .outline) (sym (decoded-at s at))
 
 -- its plot number
-pub read-number : (s : List ℕ) (at : ℕ) → number (part s at key-width) ≡ decoded (part s at record-length) .number
-read-number s at = ap (λ (r : Record). r .number) (sym (decoded-at s at))
+pub number-decoded : (s : List ℕ) (at : ℕ) → number (part s at key-width) ≡ decoded (part s at record-length) .number
+number-decoded s at = ap (λ (r : Record). r .number) (sym (decoded-at s at))
 
 -- a field that was read fits its width
 pub field-below : (s : List ℕ) (at k : ℕ) → Bytes s → k < length layout → getD (unpacked layout (drop at s)) k 0 < 256 ^ getD layout k 0

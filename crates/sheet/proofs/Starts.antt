@@ -16,7 +16,7 @@ use Rattle.records.specs.Rows.{none}
 use Rattle.sheet.specs.Layout.{sheet-limit, trailer-length, trailer}
 use Rattle.sheet.specs.Answers.{bad-length, no-room}
 use Rattle.sheet.specs.Checking.{checked}
-use Rattle.sheet.specs.Writing.{started, after-start}
+use Rattle.sheet.specs.Writing.{started, after-start, Started}
 use Rattle.sheet.proofs.Frames.{past}
 use Rattle.sheet.proofs.Checks.{checked-when}
 use Rattle.sheet.proofs.TrailerBytes.{length-trailer}
@@ -43,16 +43,6 @@ module _ (s : List ℕ) (h : ℕ) where
 pub start-refused : (s : List ℕ) (h k : ℕ) → started s h ≡ refused k → after-start s h ≡ s
 unfolding after-start
 start-refused s h k e = rw e
-
--- what an accepted start leaves in s, which is then s′
-pub record Started (s s′ : List ℕ) (h n : ℕ) : Type 0 where
-  -- it answers h + 16, and the sheet checks with no records
-  pub length-is : n ≡ h + trailer-length
-  pub checks : checked s′ n ≡ accepted 0
-  -- only the trailer's bytes are written, after the heading
-  pub heading : take h s′ ≡ take h s
-  pub past : drop n s′ ≡ drop n s
-  pub same-length : length s′ ≡ length s
 
 started-passed : (s : List ℕ) (h n : ℕ) → started s h ≡ accepted n
     → (h + trailer-length ≤ sheet-limit) × (h + trailer-length ≤ length s) × (n ≡ h + trailer-length)

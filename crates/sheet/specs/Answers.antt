@@ -2,6 +2,8 @@
 use Prim.Native.Nat.{ℕ}
 use Rattle.octagon.specs.Outcome.{Outcome, accepted, refused}
 use Rattle.sheet.specs.declared.Record.{Record}
+use Rattle.sheet.specs.declared.checking.Judged.{Judged}
+use Rattle.sheet.specs.declared.checking.Judged.the-variants as judged
 use Rattle.sheet.specs.declared.Checked.{Checked}
 use Rattle.sheet.specs.declared.Checked.the-variants as checked
 use Rattle.sheet.specs.declared.Fetched.{Fetched}
@@ -12,6 +14,10 @@ use Rattle.sheet.specs.declared.Written.the-variants as written
 abbrev pub count-outcome : Checked → Outcome ℕ
 count-outcome (checked.Count c) = accepted c
 count-outcome (checked.Refused k) = refused k
+
+abbrev pub number-outcome : Judged → Outcome ℕ
+number-outcome (judged.Number v) = accepted v
+number-outcome (judged.Refused k) = refused k
 
 abbrev pub record-outcome : Fetched → Outcome Record
 record-outcome (fetched.Record r) = accepted r

@@ -1,10 +1,10 @@
 -- What `check` and `fetch` answer: definitions that compute. proofs/CheckCases.antt says exactly when each answer of a check is
 -- given. Assumes nothing.
-use mathlib.Core.Bool.{Bool, cond, not, _&&_, _||_}
+use mathlib.Core.Bool.{Bool, cond, not, _||_}
 use mathlib.Core.List.{List, [], _∷_}
 use Prim.Native.Nat.{ℕ, _+_, _-_, _*_, _≤_}
 use lib.ListN.{length, getD}
-use lib.Dec.{leb, ltb, eqb}
+use lib.Dec.{ltb, eqb}
 use Rattle.octagon.specs.Outcome.{Outcome, accepted, refused, then}
 use Rattle.outline.specs.Tracing.{traced}
 use Rattle.records.specs.Rows.{records, key}
@@ -34,7 +34,7 @@ unfoldable pub framed : List ℕ → ℕ → Outcome ℕ
 framed s len = cond (is-bad-length s len) (refused bad-length) (stated len (trailer-at s (len - trailer-length)))
 
 -- what is known of a sheet of len bytes with c records, where that is accepted
-pub record Framed (s : List ℕ) (len c : ℕ) : Type 0 where
+pub record HoldsRecords (s : List ℕ) (len c : ℕ) : Type 0 where
   pub within : len ≤ length s
   pub short : len ≤ sheet-limit
   pub long : record-length * c + trailer-length ≤ len
@@ -66,8 +66,10 @@ unfoldable pub fetched : List ℕ → ℕ → ℕ → Outcome Record
 fetched s len k =
     then (checked s len) (λ c. cond (ltb k c) (accepted (decoded (getD (rows s len c) k []))) (refused no-record))
 
--- what `read` answers of a sheet that was checked: 13 when k is not below the count c, or c records do not lie in the buffer
+-- what `read` answers of a sheet in which a check has counted c records: 8 for the length, 10 when the records exceed the length
+-- less the trailer's, 13 when k is not below c. No record is checked.
 unfoldable pub read : List ℕ → ℕ → ℕ → ℕ → Outcome Record
 read s len c k =
-    cond (ltb k c && leb (record-length * c + trailer-length) len && leb len (length s)) (accepted (decoded (getD (rows s len c) k [])))
-    (refused no-record)
+    cond (is-bad-length s len) (refused bad-length)
+    (cond (ltb (len - trailer-length) (record-length * c)) (refused bad-distance)
+    (cond (ltb k c) (accepted (decoded (getD (rows s len c) k []))) (refused no-record)))

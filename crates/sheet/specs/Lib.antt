@@ -2,4 +2,5 @@
 pub mod Layout
 pub mod Answers
 pub mod Checking
+pub mod Cases
 pub mod Writing

@@ -78,28 +78,27 @@ pub fn fetch(sheet: &[u8], len: usize, k: u32) -> Fetched
 {
     match check(sheet, len) {
         Checked::Refused(e) => Fetched::Refused(e),
-        Checked::Count(c) => {
-            if k < c {
-                let first = len - TRAILER - RECORD * (c as usize);
-                Fetched::Record(encoding::record_at(sheet, first + RECORD * (k as usize)))
-            } else {
-                Fetched::Refused(NO_RECORD)
-            }
-        }
+        Checked::Count(c) => read(sheet, len, c, k),
     }
 }
 
 // Record k of a sheet of `len` bytes in which a check has counted `count` records: what `fetch` answers, with no check of the
-// records. Refuses a k that is not below the count, or records that do not lie in the buffer.
+// records. Refuses a wrong length, then more records than that length holds, then a k that is not below the count.
 pub fn read(sheet: &[u8], len: usize, count: u32, k: u32) -> Fetched
     ensures { λ r. ⌜ «record-outcome» r ≡ «read-of» (now (sheet .entry)) len count k ⌝ }
 {
-    let size = RECORD * (count as usize) + TRAILER;
-    if (k < count) & (size <= len) & (len <= sheet.len()) {
-        let first = len - size;
-        return Fetched::Record(encoding::record_at(sheet, first + RECORD * (k as usize)));
+    if trailer::is_bad_length(sheet, len) {
+        return Fetched::Refused(BAD_LENGTH);
     }
-    Fetched::Refused(NO_RECORD)
+    let end = len - TRAILER;
+    let distance = RECORD * (count as usize);
+    if end < distance {
+        return Fetched::Refused(BAD_DISTANCE);
+    }
+    if count <= k {
+        return Fetched::Refused(NO_RECORD);
+    }
+    Fetched::Record(encoding::record_at(sheet, end - distance + RECORD * (k as usize)))
 }
 
 // Starts a sheet of no records after `heading` bytes, and answers its length. Refuses a sheet that is too long, then one that

@@ -36,7 +36,7 @@ pub fn has_number(s: &[u8], first: usize, count: usize, width: usize, v: u32) ->
 }
 
 // How many of these records stand before the first whose number is not below v.
-pub fn place_of(s: &[u8], first: usize, count: usize, width: usize, v: u32) -> usize
+pub fn rank_of(s: &[u8], first: usize, count: usize, width: usize, v: u32) -> usize
     requires { ⌜ («key-width» ≤ width) × (first + width * count ≤ length (now s)) ⌝ }
     ensures { λ r. ⌜ (r ≡ rank v (records width (now (s .entry)) first count)) × (r ≤ count) ⌝ }
 {

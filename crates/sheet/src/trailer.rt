@@ -5,7 +5,7 @@ ghost use lib.ListN.{length};
 ghost use Rattle.records.specs.Parts.{splice};
 ghost use Rattle.sheet.specs.Answers.{«count-outcome»};
 ghost use Rattle.sheet.specs.Layout.{«record-length», «trailer-length», trailer, «trailer-at»};
-ghost use Rattle.sheet.specs.Checking.{stated, framed};
+ghost use Rattle.sheet.specs.Checking.{«is-bad-length», stated, framed};
 use crate::BAD_DISTANCE;
 use crate::BAD_LENGTH;
 use crate::BAD_TRAILER;
@@ -30,8 +30,8 @@ const FIELDS: usize = 5;
 
 const WIDTHS: [usize; FIELDS] = [4, 4, 2, 2, 4];
 
-// The letters GRND, as a number.
-const LETTERS: u32 = 1145983559;
+// The letters GRND, as the number that their bytes are.
+const LETTERS: u32 = (b'G' as u32) + 256 * ((b'R' as u32) + 256 * ((b'N' as u32) + 256 * (b'D' as u32)));
 
 // The trailer at an index.
 fn read_trailer(s: &[u8], at: usize) -> Trailer
@@ -75,11 +75,18 @@ fn state(z: Trailer, len: usize) -> Checked
     Checked::Count(count)
 }
 
+// Whether no sheet in this buffer can have `len` bytes: fewer than a trailer, more than the limit, or more than the buffer.
+pub fn is_bad_length(sheet: &[u8], len: usize) -> bool
+    ensures { λ r. ⌜ r ≡ «is-bad-length» (now (sheet .entry)) len ⌝ }
+{
+    (len < TRAILER) | (LIMIT < len) | (sheet.len() < len)
+}
+
 // The count that the trailer of a sheet states. Refuses a wrong length first.
 pub fn frame(sheet: &[u8], len: usize) -> Checked
     ensures { λ r. ⌜ «count-outcome» r ≡ framed (now (sheet .entry)) len ⌝ }
 {
-    if (len < TRAILER) | (LIMIT < len) | (sheet.len() < len) {
+    if is_bad_length(sheet, len) {
         return Checked::Refused(BAD_LENGTH);
     }
     state(read_trailer(sheet, len - TRAILER), len)

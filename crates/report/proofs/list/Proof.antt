@@ -8,7 +8,7 @@ use Rattle.octagon.specs.Outcome.{accepted, refused}
 use Rattle.sheet.specs.Answers.{count-outcome}
 use Rattle.sheet.specs.Checking.{checked}
 use Rattle.report.specs.Listing.{listing, text-limit}
-use Rattle.report.proofs.Writing.{put-counts}
+use Rattle.report.proofs.Writing.{put-prefix}
 use Rattle.report.proofs.Lengths.{listing-fits}
 use Rattle.report.proofs.Listings.{listing-accepted, listing-refused}
 use Rattle.report.proofs.list.Statement.{statement}
@@ -43,7 +43,7 @@ returns c =
     let a = d .before .before .before .before .args in
     let p = c .put-refused .ensures in
     let e = listing-refused (a .sheet .now) (a .len) _ (refuses d) in
-    (put-counts p, rw e (omega (arith, p .past), p .text))
+    (put-prefix p, rw e (omega (arith, p .past), p .text))
 
 returns-2 : tie.Need-returns-2
 returns-2 c =
@@ -51,7 +51,7 @@ returns-2 c =
     let a = d .before .before .before .before .args in
     let p = c .put-all .ensures in
     let e = listing-accepted (a .sheet .now) (a .len) _ (accepts d) in
-    (put-counts p, rw e (omega (arith, p .past), p .text))
+    (put-prefix p, rw e (omega (arith, p .past), p .text))
 
 pub list-spec : {M : Type 1} → statement M
 list-spec =

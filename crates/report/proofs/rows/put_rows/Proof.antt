@@ -10,22 +10,22 @@ use Rattle.octagon.proofs.Outcomes.{accepted-same, accepted-not-refused}
 use Rattle.sheet.specs.declared.Record.{Record}
 use Rattle.sheet.specs.Answers.{record-outcome}
 use Rattle.sheet.specs.Checking.{read}
-use Rattle.sheet.proofs.Checks.{read-checked}
+use Rattle.sheet.proofs.ReadCases.{read-checked}
 use Rattle.report.specs.Listing.{plots, rows-of, total-cells}
-use Rattle.report.proofs.Writing.{put-length, put-nothing, Left, left-all}
-use Rattle.report.proofs.Plots.{plot, length-plots, fetched-plot, total-most, rest, row-room, row-more, total-more, rest-end, total-end}
+use Rattle.report.proofs.Writing.{put-length, put-nothing, ToPut, to-put-all}
+use Rattle.report.proofs.Plots.{plot, length-plots, fetched-plot, total-cells-most, rest, row-room, row-more, total-cells-more, rest-end, total-cells-end}
 use Rattle.report.proofs.rows.put_rows.Statement.{statement}
 use Rattle.report.proofs.rows.put_rows.Tie as tie
 
 abbrev Inv-loop : tie.InvT-loop
 Inv-loop sheet len c text₀ at next₀ sum₀ k₀ text next sum k =
-    (k ≤ c) × Left text₀ at (rows-of (plots sheet len c)) text next (rest (plots sheet len c) k) × (sum + total-cells (drop k (plots sheet len c)) ≡ total-cells (plots sheet len c))
+    (k ≤ c) × ToPut text₀ at (rows-of (plots sheet len c)) text next (rest (plots sheet len c) k) × (sum + total-cells (drop k (plots sheet len c)) ≡ total-cells (plots sheet len c))
 
 abbrev μ-loop : tie.MeasureT-loop
 μ-loop sheet len c text₀ at next₀ sum₀ k₀ text next sum k = c - k
 
 loop-holds : tie.Need-loop-holds Inv-loop μ-loop
-loop-holds c = let a = c .before .before .args in (omega arith, left-all (a .text .now) (a .at) _ (c .before .before .pre .1), omega arith)
+loop-holds c = let a = c .before .before .args in (omega arith, to-put-all (a .text .now) (a .at) _ (c .before .before .pre .1), omega arith)
 
 -- the plots, and the record that is read in a turn
 abbrev rs : tie.At-loop Inv-loop μ-loop → List Record
@@ -65,20 +65,20 @@ loop-again c =
     let h : l .loop .k < length (rs l) = omega (arith, many l, t) in (
       omega (arith, t),
       row-more (rs l) (l .loop .k) h _ (is-plot d) _ f (l .loop .inv .1) (c .before .before .put-row .ensures),
-      omega (arith, l .loop .inv .2, total-more (rs l) (l .loop .k) h _ (is-plot d) _ f),
+      omega (arith, l .loop .inv .2, total-cells-more (rs l) (l .loop .k) h _ (is-plot d) _ f),
     )
 
 add-sum : tie.Need-add-sum Inv-loop μ-loop
 add-sum c =
     let l = c .before .before .before .before .before .before .before .before .before .before in
-    record { fits = omega (arith, loop-again c .2, total-most (rs l), many l, l .before .before .before .fits .c) }
+    record { fits = omega (arith, loop-again c .2, total-cells-most (rs l), many l, l .before .before .before .fits .c) }
 
 returns-2 : tie.Need-returns-2 Inv-loop μ-loop
 returns-2 c =
     let l = c .before in
     let h : length (rs l) ≤ l .loop .k = omega (arith, many l, c .loop-test .left) in (
       l .loop .inv .1 .rest (rw (rest-end (rs l) (l .loop .k) h) (put-nothing (l .loop .text) (l .loop .next) (omega (arith, l .loop .inv .1 .fits)))),
-      omega (arith, l .loop .inv .2, total-end (rs l) (l .loop .k) h),
+      omega (arith, l .loop .inv .2, total-cells-end (rs l) (l .loop .k) h),
     )
 
 pub put-rows-spec : {M : Type 1} → statement M

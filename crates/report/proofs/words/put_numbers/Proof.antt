@@ -3,19 +3,19 @@ use Prim.Native.Nat.{_-_, _≤_}
 use native.Mathlib.Omega.{arith}
 use lib.ListN.{length}
 use borrow.Author.Needs.{needs}
-use Rattle.report.proofs.Writing.{put-length, Left, left-all}
+use Rattle.report.proofs.Writing.{put-length, ToPut, to-put-all}
 use Rattle.report.proofs.Numbers.{words, number-room, number-more, newline-room, numbers-end}
 use Rattle.report.proofs.words.put_numbers.Statement.{statement}
 use Rattle.report.proofs.words.put_numbers.Tie as tie
 
 abbrev Inv-loop : tie.InvT-loop
-Inv-loop text₀ at values next₀ k₀ text next k = (k ≤ length values) × Left text₀ at (words values 0) text next (words values k)
+Inv-loop text₀ at values next₀ k₀ text next k = (k ≤ length values) × ToPut text₀ at (words values 0) text next (words values k)
 
 abbrev μ-loop : tie.MeasureT-loop
 μ-loop text₀ at values next₀ k₀ text next k = length values - k
 
 loop-holds : tie.Need-loop-holds Inv-loop μ-loop
-loop-holds c = let a = c .before .before .args in (omega arith, left-all (a .text .now) (a .at) (words (a .values .now) 0) (c .before .before .pre))
+loop-holds c = let a = c .before .before .args in (omega arith, to-put-all (a .text .now) (a .at) (words (a .values .now) 0) (c .before .before .pre))
 
 cast-put-number : tie.Need-cast-put-number Inv-loop μ-loop
 cast-put-number c = omega (arith, c .shared-slice-known2 .given (c .before .before .before .loop .k))

@@ -6,7 +6,7 @@ use lib.ListN.{length}
 use borrow.Author.Needs.{needs}
 use Rattle.records.specs.Rows.{records}
 use Rattle.sheet.specs.Layout.{record-length}
-use Rattle.sheet.specs.Answers.{count-outcome}
+use Rattle.sheet.specs.Answers.{number-outcome}
 use Rattle.sheet.specs.Checking.{surveyed}
 use Rattle.sheet.proofs.Surveys.{survey-refused, survey-more, survey-end}
 use Rattle.sheet.proofs.checking.survey.Statement.{statement}
@@ -22,20 +22,24 @@ abbrev μ-loop : tie.MeasureT-loop
 
 returns : tie.Need-returns Inv-loop μ-loop
 returns c =
-    let l = c .before .before .before .before .loop in
-    let a = c .before .before .before .before .before .before .args in
-    let j = c .before .before in
-    let e = ap count-outcome (c .enum-told .given .1) in
-    e ∙ sym (l .inv .1 ∙ survey-refused (a .count) (l .before) (a .s .now) (l .p) (l .left) _ (j .before .loop-test .taken) (sym (j .judge .ensures) ∙ e))
+    let at-judge = c .before .before .before in
+    let at-test = at-judge .before in
+    let at-loop = at-test .before in
+    let l = at-loop .loop in
+    let a = at-loop .before .before .args in
+    let e = sym (at-judge .judge .ensures) ∙ ap number-outcome (c .before .k .given .1) in
+    sym (l .inv .1 ∙ survey-refused (a .count) (l .before) (a .s .now) (l .p) (l .left) _ (at-test .loop-test .taken) e)
 
 loop-again : tie.Need-loop-again Inv-loop μ-loop
 loop-again c =
-    let l = c .before .before .before .before .before .loop in
-    let a = c .before .before .before .before .before .before .before .args in
-    let j = c .before .before .before in
-    let e = sym (j .judge .ensures) ∙ ap count-outcome (c .before .answer .given .1) in (
+    let at-judge = c .before .before .before in
+    let at-test = at-judge .before in
+    let at-loop = at-test .before in
+    let l = at-loop .loop in
+    let a = at-loop .before .before .args in
+    let e = sym (at-judge .judge .ensures) ∙ ap number-outcome (c .before .number .given .1) in (
       omega arith,
-      l .inv .1 ∙ survey-more (a .count) (l .before) (a .s .now) (l .p) (l .left) _ (j .before .loop-test .taken) e,
+      l .inv .1 ∙ survey-more (a .count) (l .before) (a .s .now) (l .p) (l .left) _ (at-test .loop-test .taken) e,
     )
 
 returns-2 : tie.Need-returns-2 Inv-loop μ-loop
@@ -53,8 +57,8 @@ survey-spec =
     (λ c. (omega arith, refl))
     (λ c κs. omega arith)
     (λ c. search needs)
-    (λ c. search needs)
     returns
+    (λ c. search needs)
     (λ c. omega arith)
     (λ c. omega arith)
     (λ c. omega arith)

@@ -4,10 +4,9 @@ use Prim.Native.Nat.{ℕ, suc, _<_, _^_}
 use native.Mathlib.Omega.{arith}
 use lib.ListN.{length, drop, getD}
 use borrow.Author.Needs.{needs}
-use Rattle.records.specs.Numbers.{unpacked}
-use Rattle.records.proofs.Numbers.{Bytes}
+use Rattle.records.specs.Numbers.{Bytes, unpacked}
 use Rattle.sheet.specs.Layout.{layout, outline-from}
-use Rattle.sheet.proofs.RecordBytes.{after-number, read-outline, field-below}
+use Rattle.sheet.proofs.RecordBytes.{after-number, outline-decoded, field-below}
 use Rattle.sheet.proofs.encoding.outline_at.Statement.{statement}
 use Rattle.sheet.proofs.encoding.outline_at.Tie as tie
 
@@ -27,7 +26,7 @@ returns : tie.Need-returns
 returns c =
     let u = c .before .before .before in
     let a = u .before .before .before .before .before .args in
-    c .outline-of .ensures ∙ ap outline-from (read u) ∙ read-outline (a .s .now) (a .at)
+    c .outline-of .ensures ∙ ap outline-from (read u) ∙ outline-decoded (a .s .now) (a .at)
 
 pub outline-at-spec : {M : Type 1} → statement M
 outline-at-spec =

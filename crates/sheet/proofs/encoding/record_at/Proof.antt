@@ -4,8 +4,7 @@ use Prim.Native.Nat.{ℕ, _<_, _^_}
 use native.Mathlib.Omega.{arith}
 use lib.ListN.{length, take, drop, getD}
 use borrow.Author.Needs.{needs}
-use Rattle.records.specs.Numbers.{unpacked}
-use Rattle.records.proofs.Numbers.{Bytes}
+use Rattle.records.specs.Numbers.{Bytes, unpacked}
 use Rattle.sheet.specs.Layout.{layout, outline-from}
 use Rattle.sheet.proofs.RecordBytes.{decoded-at, field-below}
 use Rattle.sheet.proofs.encoding.record_at.Statement.{statement}

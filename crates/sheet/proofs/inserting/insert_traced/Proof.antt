@@ -4,9 +4,9 @@ use native.Mathlib.Omega.{arith}
 use borrow.Author.Needs.{needs}
 use Rattle.octagon.specs.Outcome.{accepted}
 use Rattle.sheet.specs.Answers.{count-outcome}
-use Rattle.sheet.specs.Checking.{Framed}
+use Rattle.sheet.specs.Checking.{HoldsRecords}
 use Rattle.sheet.specs.Writing.{vetted}
-use Rattle.sheet.proofs.Checks.{checked-known}
+use Rattle.sheet.proofs.Checks.{checked-holds}
 use Rattle.sheet.proofs.Inserts.{Admitted, vetted-passed}
 use Rattle.sheet.proofs.inserting.insert_traced.Statement.{statement}
 use Rattle.sheet.proofs.inserting.insert_traced.Tie as tie
@@ -16,20 +16,20 @@ counted : (c : tie.After-c) → let a = c .before .before .before .before .befor
 counted c = sym (c .before .before .vet .ensures) ∙ ap count-outcome (c .c .given .1)
 
 room : (c : tie.After-c) → let a = c .before .before .before .before .before .args in
-    Framed (a .sheet .now) (a .len) (c .c .given .0 .0) × Admitted (a .sheet .now) (a .len) (a .r .number) (c .c .given .0 .0)
+    HoldsRecords (a .sheet .now) (a .len) (c .c .given .0 .0) × Admitted (a .sheet .now) (a .len) (a .r .number) (c .c .given .0 .0)
 room c =
     let a = c .before .before .before .before .before .args in
     let p = vetted-passed (a .sheet .now) (a .len) (a .r .number) (c .c .given .0 .0) (counted c) in
-    (checked-known (a .sheet .now) (a .len) (c .c .given .0 .0) (p .0), p .1)
+    (checked-holds (a .sheet .now) (a .len) (c .c .given .0 .0) (p .0), p .1)
 
-place-record-requires : tie.Need-place-record-requires
-place-record-requires c κs = let p = room (c .before .before) in ((p .0, p .1 .within, p .1 .short), c .before .before .before .before .before .before .before .pre)
+grow-requires : tie.Need-grow-requires
+grow-requires c κs = let p = room (c .before .before) in ((p .0, p .1 .within, p .1 .short), c .before .before .before .before .before .before .before .pre)
 
 returns : tie.Need-returns
 returns c = rw (sym (c .before .before .before .vet .ensures) ∙ ap count-outcome (c .before .e .given .1)) (refl, refl)
 
 returns-2 : tie.Need-returns-2
-returns-2 c = rw (counted (c .before .before .before .before .before)) (refl, c .before .before .place-record .ensures)
+returns-2 c = rw (counted (c .before .before .before .before .before)) (refl, c .before .before .grow .ensures)
 
 pub insert-traced-spec : {M : Type 1} → statement M
 insert-traced-spec =
@@ -38,7 +38,7 @@ insert-traced-spec =
     (λ c κs. search needs)
     (λ c. search needs)
     (λ c. search needs)
-    place-record-requires
+    grow-requires
     (λ c. omega (arith, room (c .before .before .before .before .before)))
     (λ c. search needs)
     returns

@@ -4,7 +4,7 @@ use borrow.Author.Needs.{needs}
 use Rattle.octagon.specs.Outcome.{accepted}
 use Rattle.sheet.specs.Answers.{count-outcome}
 use Rattle.sheet.specs.Checking.{checked}
-use Rattle.sheet.proofs.Checks.{checked-known}
+use Rattle.sheet.proofs.Checks.{checked-holds}
 use Rattle.sheet.proofs.Inserts.{vet-check, vet-admit}
 use Rattle.sheet.proofs.inserting.vet.Statement.{statement}
 use Rattle.sheet.proofs.inserting.vet.Tie as tie
@@ -30,5 +30,5 @@ vet-spec =
     (λ c. search needs)
     (λ c. search needs)
     returns
-    (λ c κs. let a = c .before .before .before .before .before .args in checked-known (a .sheet .now) (a .len) _ (counted (c .before)))
+    (λ c κs. let a = c .before .before .before .before .before .args in checked-holds (a .sheet .now) (a .len) _ (counted (c .before)))
     returns-2)

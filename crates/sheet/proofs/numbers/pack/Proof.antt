@@ -8,7 +8,7 @@ use lib.Seq.{drop-length}
 use Rattle.records.specs.Numbers.{total-width, packed}
 use Rattle.records.specs.Parts.{splice}
 use Rattle.records.proofs.Splices.{splice-nil}
-use Rattle.records.proofs.Steps.{total-more, pack-more}
+use Rattle.records.proofs.Steps.{total-width-more, pack-more}
 use Rattle.sheet.proofs.numbers.pack.Statement.{statement}
 use Rattle.sheet.proofs.numbers.pack.Tie as tie
 
@@ -27,7 +27,7 @@ loop-holds c = (omega arith, omega arith, refl, refl)
 within : (c : tie.In-loop Inv-loop μ-loop) → let l = c .before .loop in
     let ws = c .before .before .before .before .before .args .widths .now in
     total-width (drop (l .k) ws) ≡ getD ws (l .k) 0 + total-width (drop (l .k + 1) ws)
-within c = total-more (c .before .before .before .before .before .args .widths .now) (c .before .loop .k) (c .loop-test .taken)
+within c = total-width-more (c .before .before .before .before .before .args .widths .now) (c .before .loop .k) (c .loop-test .taken)
 
 put-number-requires : tie.Need-put-number-requires Inv-loop μ-loop
 put-number-requires c κs = omega (arith, within (c .before .before .before), c .before .before .before .before .loop .inv)

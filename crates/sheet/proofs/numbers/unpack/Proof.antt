@@ -8,7 +8,7 @@ use native.Mathlib.Nat.{le-antisymm}
 use lib.ListN.{length, take, drop, getD, length-set}
 use lib.Seq.{take-all, drop-length}
 use Rattle.records.specs.Numbers.{total-width, narrow, unpacked}
-use Rattle.records.proofs.Steps.{total-more, narrow-more, unpack-more}
+use Rattle.records.proofs.Steps.{total-width-more, narrow-more, unpack-more}
 use Rattle.sheet.proofs.numbers.unpack.Statement.{statement}
 use Rattle.sheet.proofs.numbers.unpack.Tie as tie
 
@@ -27,7 +27,7 @@ loop-holds c = (omega arith, omega arith, c .before .before .before .pre .0 .1, 
 within : (c : tie.In-loop Inv-loop μ-loop) → let l = c .before .loop in
     let ws = c .before .before .before .before .before .args .widths .now in
     total-width (drop (l .k) ws) ≡ getD ws (l .k) 0 + total-width (drop (l .k + 1) ws)
-within c = total-more (c .before .before .before .before .before .args .widths .now) (c .before .loop .k) (c .loop-test .taken)
+within c = total-width-more (c .before .before .before .before .before .args .widths .now) (c .before .loop .k) (c .loop-test .taken)
 
 slim : (c : tie.In-loop Inv-loop μ-loop) → let l = c .before .loop in
     let ws = c .before .before .before .before .before .args .widths .now in

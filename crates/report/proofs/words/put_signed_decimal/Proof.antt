@@ -1,4 +1,4 @@
--- `put_signed` meets its contract. Assumes nothing.
+-- `put_signed_decimal` meets its contract. Assumes nothing.
 use mathlib.Core.Path.{_≡_, ap, _∙_}
 use mathlib.Core.List.{List}
 use Prim.Native.Nat.{ℕ, _+_}
@@ -10,12 +10,12 @@ use mir.Facts.{toZ-ofZ}
 use Rattle.report.specs.Decimal.{decimal, sign, signed-decimal}
 use Rattle.report.specs.Lines.{Put}
 use Rattle.report.proofs.Writing.{put-length, put-then}
-use Rattle.report.proofs.words.put_signed.Statement.{statement}
-use Rattle.report.proofs.words.put_signed.Tie as tie
+use Rattle.report.proofs.words.put_signed_decimal.Statement.{statement}
+use Rattle.report.proofs.words.put_signed_decimal.Tie as tie
 
-length-signed : (z : ℤ) → length (signed-decimal z) ≡ length (sign z) + length (decimal (natAbs z))
+length-signed-decimal : (z : ℤ) → length (signed-decimal z) ≡ length (sign z) + length (decimal (natAbs z))
 unfolding signed-decimal
-length-signed z = length-append (sign z) (decimal (natAbs z))
+length-signed-decimal z = length-append (sign z) (decimal (natAbs z))
 
 put-both : (z : ℤ) {s t u : List ℕ} {at m next : ℕ} → Put s at (sign z) t m → Put t m (decimal (natAbs z)) u next → Put s at (signed-decimal z) u next
 unfolding signed-decimal
@@ -30,13 +30,13 @@ whole : (c : tie.After-magnitude) → c .magnitude .result ≡ natAbs (c .before
 whole c = c .magnitude .ensures ∙ ap natAbs (toZ-ofZ (c .before .before .before .before .before .before .before .fits .z))
 
 put-sign-requires : tie.Need-put-sign-requires
-put-sign-requires c κs = let e = c .before .before in rw (toZ-ofZ (e .fits .z)) (omega (arith, length-signed (e .args .z)))
+put-sign-requires c κs = let e = c .before .before in rw (toZ-ofZ (e .fits .z)) (omega (arith, length-signed-decimal (e .args .z)))
 
 put-decimal-requires : tie.Need-put-decimal-requires
 put-decimal-requires c κs =
     let p = signed-first (c .before .before .before .before) in
     let e = c .before .before .before .before .before .before .before in
-    rw (whole c) (omega (arith, length-signed (e .args .z), e .pre, p .past, put-length p))
+    rw (whole c) (omega (arith, length-signed-decimal (e .args .z), e .pre, p .past, put-length p))
 
 returns : tie.Need-returns
 returns c =
@@ -44,6 +44,6 @@ returns c =
     let e = m .before .before .before .before .before .before .before in
     put-both (e .args .z) (signed-first (m .before .before .before .before)) (rw (whole m) at (c .before .before .put-decimal .ensures))
 
-pub put-signed-spec : {M : Type 1} → statement M
-put-signed-spec =
+pub put-signed-decimal-spec : {M : Type 1} → statement M
+put-signed-decimal-spec =
     tie.close (tie.spec put-sign-requires (λ c κs. search needs) put-decimal-requires (λ c. put-length (returns c)) returns)

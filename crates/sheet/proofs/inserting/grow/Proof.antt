@@ -1,4 +1,4 @@
--- `place_record` meets its contract. Assumes nothing.
+-- `grow` meets its contract. Assumes nothing.
 use mathlib.Core.Path.{_≡_, sym, ap, _∙_}
 use mathlib.Core.List.{List}
 use Prim.Native.Nat.{ℕ, _+_, _-_, _*_}
@@ -11,15 +11,15 @@ use Rattle.sheet.specs.Layout.{record-length, trailer-length, trailer, e
 use Rattle.sheet.specs.Checking.{first, rows}
 use Rattle.sheet.proofs.RecordBytes.{length-encoded, key-encoded}
 use Rattle.sheet.proofs.Inserts.{grown-is}
-use Rattle.sheet.proofs.inserting.place_record.Statement.{statement}
-use Rattle.sheet.proofs.inserting.place_record.Tie as tie
+use Rattle.sheet.proofs.inserting.grow.Statement.{statement}
+use Rattle.sheet.proofs.inserting.grow.Tie as tie
 
 -- the place that was found is that of the record's bytes
-found : (c : tie.After-place-of) → let a = c .before .before .before .args in c .place-of .result ≡ rank (key (encoded (a .r))) (rows (a .sheet .now) (a .len) (a .c))
+found : (c : tie.After-rank-of) → let a = c .before .before .before .args in c .rank-of .result ≡ rank (key (encoded (a .r))) (rows (a .sheet .now) (a .len) (a .c))
 found c =
     let s = c .before .before .before in
     let a = s .args in
-    c .place-of .ensures .0 ∙ ap (λ (x : ℕ). rank x (rows (a .sheet .now) (a .len) (a .c))) (sym (key-encoded (a .r) (omega (arith, s .good)) (s .pre .1)))
+    c .rank-of .ensures .0 ∙ ap (λ (x : ℕ). rank x (rows (a .sheet .now) (a .len) (a .c))) (sym (key-encoded (a .r) (omega (arith, s .good)) (s .pre .1)))
 
 -- what is written where a place is found
 abbrev written : List ℕ → ℕ → ℕ → Record → ℕ → List ℕ
@@ -29,7 +29,7 @@ written s len c r k =
 
 steps : (c : tie.After-put-trailer) → let p = c .before .before .before .before .before .before .before .before .before .before in
     let a = p .before .before .before .args in
-    c .put-trailer .last .0 ≡ written (a .sheet .now) (a .len) (a .c) (a .r) (p .place-of .result)
+    c .put-trailer .last .0 ≡ written (a .sheet .now) (a .len) (a .c) (a .r) (p .rank-of .result)
 steps c =
     let p = c .before .before .before .before .put-record in
     let h = c .before .before .before .before .before .before .before .before .shift-up in
@@ -43,8 +43,8 @@ returns c =
     ∙ ap (written (a .sheet .now) (a .len) (a .c) (a .r)) (found (c .before .before .before .before .before .before .before .before .before .before .before .before))
     ∙ grown-is (a .sheet .now) (a .len) (a .c) (encoded (a .r)) (s .pre .0 .0) (s .pre .0 .1) (length-encoded (a .r))
 
-pub place-record-spec : {M : Type 1} → statement M
-place-record-spec =
+pub grow-spec : {M : Type 1} → statement M
+grow-spec =
     tie.close
     (tie.spec
     (λ c. search needs)

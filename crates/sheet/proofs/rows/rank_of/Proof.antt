@@ -1,13 +1,13 @@
--- `place_of` meets its contract. The invariant: k records are passed, and the others decide how many more. Assumes nothing.
+-- `rank_of` meets its contract. The invariant: k records are passed, and the others decide how many more. Assumes nothing.
 use mathlib.Core.Path.{_≡_}
 use Prim.Native.Nat.{_+_, _-_, _*_, _≤_}
 use native.Mathlib.Omega.{arith}
 use lib.ListN.{length}
 use Rattle.records.specs.Rows.{records, rank}
 use Rattle.records.proofs.Rows.{mul-pred}
-use Rattle.records.proofs.Order.{place-here, place-on}
-use Rattle.sheet.proofs.rows.place_of.Statement.{statement}
-use Rattle.sheet.proofs.rows.place_of.Tie as tie
+use Rattle.records.proofs.Order.{rank-here, rank-on}
+use Rattle.sheet.proofs.rows.rank_of.Statement.{statement}
+use Rattle.sheet.proofs.rows.rank_of.Tie as tie
 
 abbrev Inv-loop : tie.InvT-loop
 Inv-loop s first count width v p₀ k₀ p k =
@@ -29,7 +29,7 @@ returns : tie.Need-returns Inv-loop μ-loop
 returns c =
     let l = c .before .before .before .loop in
     let a = c .before .before .before .before .before .args in
-    (omega (arith, place-here (a .width) (a .s .now) (l .p) (a .count - l .k) (a .v) (omega arith) (omega arith) (omega (arith, c .before .key-at .ensures))), omega arith)
+    (omega (arith, rank-here (a .width) (a .s .now) (l .p) (a .count - l .k) (a .v) (omega arith) (omega arith) (omega (arith, c .before .key-at .ensures))), omega arith)
 
 loop-again : tie.Need-loop-again Inv-loop μ-loop
 loop-again c =
@@ -39,7 +39,7 @@ loop-again c =
     rw n (
       omega arith,
       omega (arith, within (c .before .before)),
-      omega (arith, place-on (a .width) (a .s .now) (l .p) (a .count - l .k) (a .v) (omega arith) (omega arith) (omega (arith, c .before .key-at .ensures))),
+      omega (arith, rank-on (a .width) (a .s .now) (l .p) (a .count - l .k) (a .v) (omega arith) (omega arith) (omega (arith, c .before .key-at .ensures))),
     )
 
 returns-2 : tie.Need-returns-2 Inv-loop μ-loop
@@ -49,8 +49,8 @@ returns-2 c =
     let n : a .count - l .k ≡ 0 = omega arith in
     (omega (arith, rw n at (l .inv .2)), omega arith)
 
-pub place-of-spec : {M : Type 1} → statement M
-place-of-spec =
+pub rank-of-spec : {M : Type 1} → statement M
+rank-of-spec =
     tie.close
     (tie.spec
     Inv-loop
