@@ -4,7 +4,7 @@ use Prim.Native.Nat.{_≤_, _+_, _-_}
 use native.Mathlib.Omega.{arith}
 use lib.ListN.{length}
 use borrow.Author.Needs.{needs}
-use Rattle.listing.specs.Lengths.{bytes-moved}
+use Rattle.listing.specs.Transfers.{bytes-moved}
 use Rattle.listing.proofs.output.write_all.Statement.{statement}
 use Rattle.listing.proofs.output.write_all.Tie as tie
 
