@@ -4,7 +4,7 @@
     python3 tests/listing.py [PROGRAM]    runs target/bin/listing, as `rt check listing` leaves it, or PROGRAM
 
 Each case holds standard output, standard error and the status to what is expected, byte for byte. The sheets and their listings are
-those of tests/sheets.py. Run it from the top of the repository, on Linux. It needs Python 3.8 or newer and nothing else.
+those of tests/sheets.py. Run it from the top of the repository, on Linux. It needs Python 3.9 or newer and nothing else.
 """
 import fcntl
 import functools

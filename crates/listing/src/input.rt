@@ -1,7 +1,7 @@
 // An input read to its end, or until a buffer is full. A failure is told from an end.
 ghost use Prim.Native.Nat.{_≤_};
 ghost use lib.ListN.{length};
-ghost use Rattle.listing.specs.Lengths.{«bytes-read»};
+ghost use Rattle.listing.specs.Transfers.{«bytes-read»};
 use crate::transfer::TRIES;
 use crate::transfer::Transfer;
 use crate::transfer::read_some;

@@ -1,9 +1,10 @@
 // One read and one write, and what their answers mean.
 //
-// specs/Lengths.antt has what is said of a count. Of the bytes that a call reads or writes no contract can speak.
+// specs/Transfers.antt has what an answer means. Of the bytes that a call reads or writes no contract can speak.
+ghost use mathlib.Core.Path.{_≡_};
 ghost use Prim.Native.Nat.{_≤_};
 ghost use lib.ListN.{length};
-ghost use Rattle.listing.specs.Lengths.{«bytes-moved»};
+ghost use Rattle.listing.specs.Transfers.{«bytes-moved», told};
 
 // What a call did: it moved so many bytes; a signal interrupted it before it moved one; or it failed.
 pub enum Transfer {
@@ -15,17 +16,23 @@ pub enum Transfer {
 // How many interrupted calls are made again. One more has failed.
 pub const TRIES: usize = 1000;
 
-// What the answer of a call on this buffer means. It is asked right after the call.
-fn outcome(answer: isize, buffer: &[u8]) -> Transfer
+// What a call on this buffer did, by its answer and whether a signal interrupted it.
+fn meaning(answer: isize, interrupted: bool, buffer: &[u8]) -> Transfer
+    ensures { λ r. ⌜ r ≡ told answer interrupted (length (now (buffer .entry))) ⌝ }
     ensures { λ r. ⌜ «bytes-moved» r ≤ length (now (buffer .entry)) ⌝ }
 {
     if answer >= 0 {
         return Transfer::Bytes(io::count(answer, buffer));
     }
-    if os::errno() == libc::EINTR {
+    if interrupted {
         return Transfer::Interrupted;
     }
     Transfer::Failed
+}
+
+// The last call failed because a signal interrupted it. This is asked right after the call, and means something only if it failed.
+fn was_interrupted() -> bool {
+    os::errno() == libc::EINTR
 }
 
 // Reads once. No bytes are the end of the input.
@@ -33,7 +40,7 @@ pub fn read_some(fd: i32, room: &mut [u8]) -> Transfer
     ensures { λ r. ⌜ «bytes-moved» r ≤ length (now (room .exit)) ⌝ }
 {
     let answer = libc::read(fd, room);
-    outcome(answer, room)
+    meaning(answer, was_interrupted(), room)
 }
 
 // Writes once. Fewer bytes may be taken than there are.
@@ -41,5 +48,5 @@ pub fn write_some(fd: i32, text: &[u8]) -> Transfer
     ensures { λ r. ⌜ «bytes-moved» r ≤ length (now (text .entry)) ⌝ }
 {
     let answer = libc::write(fd, text);
-    outcome(answer, text)
+    meaning(answer, was_interrupted(), text)
 }

@@ -4,7 +4,7 @@ use Prim.Native.Nat.{_≤_, _+_, _-_}
 use native.Mathlib.Omega.{arith}
 use lib.ListN.{length}
 use borrow.Author.Needs.{needs}
-use Rattle.listing.specs.Lengths.{bytes-moved}
+use Rattle.listing.specs.Transfers.{bytes-moved}
 use Rattle.listing.proofs.input.read_all.Statement.{statement}
 use Rattle.listing.proofs.input.read_all.Tie as tie
 
@@ -13,12 +13,6 @@ Inv-loop fd buffer₀ done₀ tries₀ buffer done tries = (done ≤ length buff
 
 abbrev μ-loop : tie.MeasureT-loop
 μ-loop fd buffer₀ done₀ tries₀ buffer done tries = length buffer - done + tries
-
-add-done : tie.Need-add-done Inv-loop μ-loop
-add-done c = omega (arith, ap bytes-moved (c .before .before .n .given .1))
-
-loop-again : tie.Need-loop-again Inv-loop μ-loop
-loop-again c = omega (arith, ap bytes-moved (c .before .before .n .given .1))
 
 pub read-all-spec : {M : Type 1} → statement M
 read-all-spec =
@@ -34,9 +28,9 @@ read-all-spec =
     (λ c. search needs)
     (λ c. search needs)
     (λ c. search needs)
-    add-done
+    (λ c. omega (arith, ap bytes-moved (c .before .before .n .given .1)))
     (λ c. search needs)
-    loop-again
+    (λ c. omega (arith, ap bytes-moved (c .before .before .n .given .1)))
     (λ c. search needs)
     (λ c. search needs)
     (λ c. search needs)

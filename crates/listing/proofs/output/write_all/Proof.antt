@@ -4,7 +4,7 @@ use Prim.Native.Nat.{_≤_, _+_, _-_}
 use native.Mathlib.Omega.{arith}
 use lib.ListN.{length}
 use borrow.Author.Needs.{needs}
-use Rattle.listing.specs.Lengths.{bytes-moved}
+use Rattle.listing.specs.Transfers.{bytes-moved}
 use Rattle.listing.proofs.output.write_all.Statement.{statement}
 use Rattle.listing.proofs.output.write_all.Tie as tie
 
@@ -13,12 +13,6 @@ Inv-loop fd text done₀ tries₀ done tries = done ≤ length text
 
 abbrev μ-loop : tie.MeasureT-loop
 μ-loop fd text done₀ tries₀ done tries = length text - done + tries
-
-add-done : tie.Need-add-done Inv-loop μ-loop
-add-done c = omega (arith, ap bytes-moved (c .before .before .n .given .1))
-
-loop-again : tie.Need-loop-again Inv-loop μ-loop
-loop-again c = omega (arith, ap bytes-moved (c .before .before .n .given .1))
 
 pub write-all-spec : {M : Type 1} → statement M
 write-all-spec =
@@ -33,9 +27,9 @@ write-all-spec =
     (λ c κs. search needs)
     (λ c. search needs)
     (λ c. search needs)
-    add-done
+    (λ c. omega (arith, ap bytes-moved (c .before .before .n .given .1)))
     (λ c. search needs)
-    loop-again
+    (λ c. omega (arith, ap bytes-moved (c .before .before .n .given .1)))
     (λ c. search needs)
     (λ c. search needs)
     (λ c. search needs)
