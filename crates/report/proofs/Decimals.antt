@@ -43,11 +43,11 @@ decimal-more (suc k) h =
 
 -- what holds of one digit, and of a number if of its digits but the last, holds of all
 by-digits : (P : ℕ → Type 0) → ((n : ℕ) → n < 10 → P n) → ((n : ℕ) → 10 ≤ n → P (n / 10) → P n) → (n : ℕ) → P n
-by-digits P one more n = go n n (omega arith)
+by-digits P one many n = go n n (omega arith)
   where
     go : (k n : ℕ) → n ≤ k → P n
     go zero n h = one n (omega arith)
-    go (suc k) n h = cases (ltb n 10) (λ t. one n (ltb-true n 10 t)) (λ t. more n (ltb-false n 10 t) (go k (n / 10) (omega (arith, ltb-false n 10 t))))
+    go (suc k) n h = cases (ltb n 10) (λ t. one n (ltb-true n 10 t)) (λ t. many n (ltb-false n 10 t) (go k (n / 10) (omega (arith, ltb-false n 10 t))))
 
 -- ---- the number again
 
