@@ -25,9 +25,7 @@ put-numbers-requires : tie.Need-put-numbers-requires
 put-numbers-requires c κs = to-put1 (c .before .before .before .before) .fits
 
 returns : tie.Need-returns
-returns c =
-    let at-numbers = c .before .before in
-    to-put1 (at-numbers .before .before .before .before .before) .rest (at-numbers .put-numbers .ensures)
+returns c = let at-numbers = c .before .before in to-put1 (at-numbers .before .before .before .before .before) .rest (at-numbers .put-numbers .ensures)
 
 pub put-refused-spec : {M : Type 1} → statement M
 put-refused-spec =

@@ -4,13 +4,13 @@ use Prim.Native.Nat.{ℕ, suc, _<_, _^_}
 use native.Mathlib.Omega.{arith}
 use lib.ListN.{length, drop, getD}
 use borrow.Author.Needs.{needs}
-use Rattle.records.specs.Numbers.{Bytes, unpacked}
+use Rattle.records.specs.Numbers.{AreBytes, unpacked}
 use Rattle.sheet.specs.Layout.{layout, outline-from}
 use Rattle.sheet.proofs.RecordBytes.{after-number, outline-decoded, field-below}
 use Rattle.sheet.proofs.encoding.outline_at.Statement.{statement}
 use Rattle.sheet.proofs.encoding.outline_at.Tie as tie
 
-bytes : (c : tie.After-shared-slice-known) → Bytes (c .before .args .s .now)
+bytes : (c : tie.After-shared-slice-known) → AreBytes (c .before .args .s .now)
 bytes c i = omega (arith, c .shared-slice-known .given i)
 
 -- the slice that is lent, and the start

@@ -28,9 +28,7 @@ abbrev start-of : tie.At-loop Inv-loop μ-loop → tie.Start Inv-loop μ-loop
 start-of c = c .before .before .before .before
 
 -- the field that is next lies within s, and is narrow
-within : (c : tie.In-loop Inv-loop μ-loop) → let l = c .before .loop in
-    let ws = start-of (c .before) .args .widths .now in
-    total-width (drop (l .k) ws) ≡ getD ws (l .k) 0 + total-width (drop (l .k + 1) ws)
+within : (c : tie.In-loop Inv-loop μ-loop) → let ws = start-of (c .before) .args .widths .now in total-width (drop (c .before .loop .k) ws) ≡ getD ws (c .before .loop .k) 0 + total-width (drop (c .before .loop .k + 1) ws)
 within c = total-width-more (start-of (c .before) .args .widths .now) (c .before .loop .k) (c .loop-test .taken)
 
 slim : (c : tie.In-loop Inv-loop μ-loop) → let l = c .before .loop in
