@@ -5,7 +5,7 @@ use Prim.Native.Nat.{ℕ, zero, suc, _-_, _^_, _≤_, _<_}
 use native.Mathlib.Omega.{arith}
 use lib.ListN.{length, take, drop, getD, length-append, length-drop}
 use lib.Seq.{take-at, drop-at, take-add, take-take}
-use Rattle.records.specs.Numbers.{Bytes, number, bytes, total-width, packed, unpacked}
+use Rattle.records.specs.Numbers.{AreBytes, number, bytes, total-width, packed, unpacked}
 use Rattle.records.proofs.Parts.{between-part}
 use Rattle.records.proofs.Numbers.{drop-bytes, number-take, length-bytes, number-bytes, bytes-number}
 
@@ -30,7 +30,7 @@ pub unpacked-all : {ws vs : List ℕ} → Fit ws vs → unpacked ws (packed ws v
 unpacked-all {ws} {vs} f = rw (append-nil (packed ws vs)) at (unpacked-packed [] f)
 
 -- and bytes that were read are written again
-pub packed-unpacked : (ws s : List ℕ) → Bytes s → total-width ws ≤ length s → packed ws (unpacked ws s) ≡ take (total-width ws) s
+pub packed-unpacked : (ws s : List ℕ) → AreBytes s → total-width ws ≤ length s → packed ws (unpacked ws s) ≡ take (total-width ws) s
 packed-unpacked [] s h l = refl
 packed-unpacked (w ∷ ws) s h l =
     rw (bytes-number w s h (omega arith), packed-unpacked ws (drop w s) (drop-bytes w s h) (rw length-drop (omega arith)), take-add)
@@ -42,7 +42,7 @@ unpacked-take (w ∷ ws) s L h =
     rw (take-take w L s (omega arith), between-part w L s) (ap (λ (x : List ℕ). number (take w s) ∷ x) (unpacked-take ws (drop w s) (L - w) (omega arith)))
 
 -- numbers that were read from bytes fit their fields
-pub unpacked-fit : (ws s : List ℕ) → Bytes s → Fit ws (unpacked ws s)
+pub unpacked-fit : (ws s : List ℕ) → AreBytes s → Fit ws (unpacked ws s)
 unpacked-fit [] s h = none
 unpacked-fit (w ∷ ws) s h = more (number-take w s h) (unpacked-fit ws (drop w s) (drop-bytes w s h))
 

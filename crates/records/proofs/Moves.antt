@@ -1,4 +1,4 @@
--- Laws of bytes that are moved up to make room. Assumes nothing.
+-- Laws of bytes that are moved up to make room, and of what is put into it and after them. Assumes nothing.
 use mathlib.Core.Path.{_≡_, sym, ap, _∙_}
 use mathlib.Core.List.{List, _∷_, _++_, append-assoc, append-nil}
 use Prim.Native.Nat.{ℕ, suc, _+_, _≤_, _<_}

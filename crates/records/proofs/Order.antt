@@ -1,4 +1,4 @@
--- The order of records by plot number: one more record keeps it, and where a number stands. Assumes nothing.
+-- The order of records by plot number: one more record keeps it, where a number stands, and the records one by one. Assumes nothing.
 use mathlib.Core.Path.{_≡_, refl, sym}
 use mathlib.Core.Bool.{Bool, true, false, cond, _||_}
 use mathlib.Core.List.{List, [], _∷_}

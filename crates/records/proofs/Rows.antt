@@ -1,4 +1,5 @@
--- Records as bytes, over the record length L: what is read from a list of bytes, and what is written. Assumes nothing.
+-- Records as bytes, over the record length L: what is read from a list of bytes, what is written, and one record more. Assumes
+-- nothing.
 use mathlib.Core.Path.{_≡_, refl, sym, ap, _∙_}
 use mathlib.Core.Bool.{Bool, true, false, cond}
 use mathlib.Core.List.{List, [], _∷_, _++_, append-assoc, append-nil}

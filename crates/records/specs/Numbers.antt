@@ -1,4 +1,4 @@
--- Numbers in bytes, the lowest byte first (document 01: little-endian), signed ones in two's complement; and numbers in
+-- AreBytes, and numbers in bytes, the lowest byte first (document 01: little-endian), signed ones in two's complement; and numbers in
 -- fields of given widths, one after the other. Assumes nothing.
 use Prim.Native.Nat.{ℕ, zero, suc, _+_, _-_, _*_, _/_, _%_, _^_, _<_}
 use mathlib.Core.Bool.{Bool, true, cond, _&&_}
@@ -8,8 +8,8 @@ use lib.Dec.{leb, ltb}
 use lib.IntN.{ℤ, pos, negsuc, _-ℤ_}
 
 -- each element is a byte
-abbrev pub Bytes : List ℕ → Type 0
-Bytes s = (i : ℕ) → getD s i 0 < 256
+abbrev pub AreBytes : List ℕ → Type 0
+AreBytes s = (i : ℕ) → getD s i 0 < 256
 
 -- the number that bytes are
 abbrev pub number : List ℕ → ℕ

@@ -1,5 +1,5 @@
--- Records of one length L in a list of bytes, their plot numbers, and the records with one more. A record is the list of its
--- bytes. Assumes nothing.
+-- Records of one length L in a list of bytes, their plot numbers, their order by number, and the records with one more. A record is
+-- the list of its bytes. Assumes nothing.
 use Prim.Native.Nat.{ℕ, zero, suc, _+_, _<_}
 use mathlib.Core.Bool.{Bool, false, cond, _||_}
 use mathlib.Core.List.{List, [], _∷_, _++_}

@@ -10,7 +10,7 @@ use lib.ListN.{length, getD, drop, length-append}
 use Rattle.integers.proofs.Parts.{up, dn, subℕ-parts}
 use Rattle.octagon.specs.Outcome.{Outcome, accepted, refused}
 use Rattle.octagon.proofs.Outcomes.{refused-same, accepted-not-refused}
-use Rattle.records.specs.Numbers.{Bytes, signed as two-complement, unpacked}
+use Rattle.records.specs.Numbers.{AreBytes, signed as two-complement, unpacked}
 use Rattle.records.specs.Parts.{part}
 use Rattle.records.specs.Rows.{records}
 use Rattle.sheet.specs.declared.Record.{Record}
@@ -88,7 +88,7 @@ start-small v h = go (ltb v 32768)
     go true = omega arith
     go false = far v (subℕ v 65536) h (subℕ-parts v 65536)
 
-small : (s : List ℕ) (at : ℕ) → Bytes s → Small (decoded (part s at record-length))
+small : (s : List ℕ) (at : ℕ) → AreBytes s → Small (decoded (part s at record-length))
 small s at b =
     let below : (k : ℕ) → k < length layout → getD (unpacked layout (drop at s)) k 0 < 256 ^ getD layout k 0 = λ k. field-below s at k b in
     rw (decoded-at s at) record {
@@ -115,7 +115,7 @@ row-length r h =
     (numbers (o .n4) (h .n4) (numbers (o .n5) (h .n5) (numbers (o .n6) (h .n6) (numbers (o .n7) (h .n7)
     (numbers (cell-number o) (omega (arith, cells-most o)) none)))))))))))
 
-rows-length : (s : List ℕ) (at n : ℕ) → Bytes s → length (rows-of (map decoded (records record-length s at n))) ≤ line-limit * n
+rows-length : (s : List ℕ) (at n : ℕ) → AreBytes s → length (rows-of (map decoded (records record-length s at n))) ≤ line-limit * n
 rows-length s at zero b = omega arith
 rows-length s at (suc n) b =
     let r = decoded (part s at record-length) in
@@ -151,7 +151,7 @@ refusal-small e (misplaced z m h) q = omega (arith, refused-same q)
 refusal-small e (faulty f h) q = omega (arith, refused-same q, fault-small h)
 refusal-small e (right f g) q = absurd (accepted-not-refused q)
 
-full-length : (s : List ℕ) (len c : ℕ) → Bytes s → checked s len ≡ accepted c → length (full (plots s len c)) ≤ text-limit
+full-length : (s : List ℕ) (len c : ℕ) → AreBytes s → checked s len ≡ accepted c → length (full (plots s len c)) ≤ text-limit
 unfolding full plots heading-line
 full-length s len c b e =
     let k = checked-holds s len c e in
@@ -165,7 +165,7 @@ full-length s len c b e =
       last-length (length rs) (total-cells rs) (omega arith) (omega (arith, total-cells-most rs)),
     )
 
-pub listing-fits : (s : List ℕ) (len : ℕ) → Bytes s → length (listing s len) ≤ text-limit
+pub listing-fits : (s : List ℕ) (len : ℕ) → AreBytes s → length (listing s len) ≤ text-limit
 unfolding listing
 listing-fits s len b = go (checked s len) refl
   where

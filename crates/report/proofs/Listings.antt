@@ -17,7 +17,7 @@ use Rattle.sheet.specs.Layout.{record-length, decoded}
 use Rattle.sheet.specs.Checking.{first, rows, checked}
 use Rattle.sheet.proofs.Checks.{checked-good, fetched-row}
 use Rattle.report.specs.Lines.{heading-line, last-line, refused-line}
-use Rattle.report.specs.Listing.{cell-number, plots, row-of, rows-of, total-cells, full, listing, Counted, Row}
+use Rattle.report.specs.Listing.{cell-number, plots, row-of, rows-of, total-cells, full, listing, CountedOutline, PlotRow}
 use Rattle.report.proofs.Plots.{length-plots}
 
 -- ---- the lines
@@ -42,7 +42,7 @@ listing-lines s len c e = listing-accepted s len c e ∙ counted (plots s len c)
 
 -- ---- the rows
 
-pub cells-counted : (o : Outline) (a : Octagon) → traced o ≡ accepted a → Counted o (cell-number o)
+pub cells-counted : (o : Outline) (a : Octagon) → traced o ≡ accepted a → CountedOutline o (cell-number o)
 unfolding cell-number
 cells-counted o a e =
     let m = accepted-means o a e in
@@ -55,7 +55,7 @@ map-at f (r ∷ rs) zero d h = refl
 map-at f (r ∷ rs) (suc k) d h = map-at f rs k d (omega arith)
 
 -- a listing has a row for each record
-pub rows-fetched : (s : List ℕ) (len c k : ℕ) → checked s len ≡ accepted c → k < c → Row s len k (getD (map row-of (plots s len c)) k [])
+pub rows-fetched : (s : List ℕ) (len c k : ℕ) → checked s len ≡ accepted c → k < c → PlotRow s len k (getD (map row-of (plots s len c)) k [])
 unfolding plots row-of
 rows-fetched s len c k e h =
     let n : k < length (plots s len c) = omega (arith, length-plots s len c) in

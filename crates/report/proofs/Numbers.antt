@@ -1,4 +1,4 @@
--- Numbers in a line, one after the other. Assumes nothing.
+-- Numbers in a line, one after the other, and the parts of a row. Assumes nothing.
 use mathlib.Core.Path.{_≡_, ap}
 use mathlib.Core.List.{List, [], _∷_, _++_, map, append-assoc}
 use Prim.Native.Nat.{ℕ, suc, _+_, _≤_, _<_}

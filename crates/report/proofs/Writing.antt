@@ -1,4 +1,4 @@
--- Words put into a buffer one after the other. Assumes nothing.
+-- Words put into a buffer one after the other, and what is still to be put. Assumes nothing.
 use mathlib.Core.Path.{_≡_, refl, sym, ap, _∙_}
 use mathlib.Core.List.{List, [], _∷_, _++_}
 use Prim.Native.Nat.{ℕ, _+_, _≤_, _<_}

@@ -1,4 +1,5 @@
--- Numbers as decimal text: definitions that compute. proofs/Decimals.antt says that `decimal` is right. Assumes nothing.
+-- Numbers as decimal text: definitions that compute, and the numbers that texts stand for. proofs/Decimals.antt ties the two.
+-- Assumes nothing.
 use mathlib.Core.Bool.{true, false}
 use mathlib.Core.List.{List, [], _∷_, _++_}
 use Prim.Native.Nat.{ℕ, zero, suc, _+_, _-_, _*_, _/_, _%_, _≤_}
@@ -15,9 +16,9 @@ digits zero n = digit n ∷ []
 digits (suc k) n = elim (ltb n 10) [ true ↦ digit n ∷ [] | false ↦ digits k (n / 10) ++ (digit (n % 10) ∷ []) ]
 
 -- bytes that are digits and nothing else
-pub data Digits : List ℕ → Type 0 where
-  none : Digits []
-  more : {b : ℕ} {s : List ℕ} → 48 ≤ b → b ≤ 57 → Digits s → Digits (b ∷ s)
+pub data AllDigits : List ℕ → Type 0 where
+  none : AllDigits []
+  more : {b : ℕ} {s : List ℕ} → 48 ≤ b → b ≤ 57 → AllDigits s → AllDigits (b ∷ s)
 
 -- a number in fewest digits: n has at most n + 1 of them
 unfoldable pub decimal : ℕ → List ℕ

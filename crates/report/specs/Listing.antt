@@ -1,5 +1,5 @@
--- The listing of a sheet, as the program of document 01 writes it: a definition that computes. proofs/Listings.antt says what it has.
--- Assumes nothing.
+-- The listing of a sheet, as the program of document 01 writes it: a definition that computes; and what a row says of its record
+-- (`PlotRow`), which proofs/Listings.antt shows of it. Assumes nothing.
 use mathlib.Core.Path.{_≡_}
 use mathlib.Core.List.{List, [], _∷_, _++_, map}
 use Prim.Native.Nat.{ℕ, _+_, _-_, _*_, _/_}
@@ -59,18 +59,18 @@ listing s len = text-of s len (checked s len)
 -- ---- a row in the words of document 01
 
 -- the outline o is accepted, and n is the number of cells inside it
-pub record Counted (o : Outline) (n : ℕ) : Type 0 where
+pub record CountedOutline (o : Outline) (n : ℕ) : Type 0 where
   pub octagon : Octagon
   pub is-octagon : traced o ≡ accepted octagon
   pub same-cells : In octagon ≐ InsideWalk o
   pub number : n ≡ count limit (inside octagon)
 
 -- the text b is the row of record k: the record that `fetch` gives for k, and the number of cells inside its outline
-pub record Row (s : List ℕ) (len k : ℕ) (b : List ℕ) : Type 0 where
+pub record PlotRow (s : List ℕ) (len k : ℕ) (b : List ℕ) : Type 0 where
   pub plot : Record
   pub cell-number : ℕ
   pub is-fetched : fetched s len k ≡ accepted plot
-  pub is-counted : Counted (plot .outline) cell-number
+  pub is-counted : CountedOutline (plot .outline) cell-number
   pub text : b ≡ row-line plot cell-number
 
 -- ---- how long a listing can be

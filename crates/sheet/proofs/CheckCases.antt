@@ -1,5 +1,4 @@
--- Check a sheet, in the words of document 01: each answer with what it says of the sheet. `check-exactly` says that an answer is
--- given exactly where its case holds. Assumes nothing.
+-- Check a sheet: each answer is given exactly where its case of specs/Cases.antt holds (`check-exactly`). Assumes nothing.
 use mathlib.Core.Path.{_≡_, refl, sym, _∙_}
 use mathlib.Core.Logic.{_↔_}
 use mathlib.Core.List.{List, [], _∷_}

@@ -1,4 +1,4 @@
--- The check of a sheet from its frame and its records, and the record that is fetched or read. Assumes nothing.
+-- The check of a sheet from its frame and its records, and what `fetch` answers after it. Assumes nothing.
 use mathlib.Core.Path.{_≡_, sym, ap, _∙_}
 use mathlib.Core.Bool.{true, false}
 use mathlib.Core.List.{List, []}

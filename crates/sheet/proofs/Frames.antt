@@ -1,5 +1,5 @@
--- The frame of a sheet, its length and its trailer: what each test says, and where the records of an accepted frame stand.
--- Assumes nothing.
+-- The frame of a sheet, its length and its trailer: what each test says, that a frame is accepted exactly where it is good, and that
+-- its records then lie in the buffer. Assumes nothing.
 use mathlib.Core.Path.{_≡_, refl, sym}
 use mathlib.Core.Bool.{Bool, true, false, cond, not, _||_}
 use mathlib.Core.List.{List}
@@ -62,9 +62,9 @@ past true k o a e = absurd (accepted-not-refused (sym e))
 past false k o a e = (refl, e)
 
 -- a frame is accepted exactly where it is sound
-pub framed-sound : (s : List ℕ) (len c : ℕ) → framed s len ≡ accepted c → GoodFrame s len c
+pub framed-good : (s : List ℕ) (len c : ℕ) → framed s len ≡ accepted c → GoodFrame s len c
 unfolding framed stated
-framed-sound s len c e =
+framed-good s len c e =
     let z = trailer-at s (len - trailer-length) in
     let p = past (is-bad-length s len) bad-length _ c e in
     let q = past (has-bad-marks z) bad-trailer _ c (p .1) in
@@ -80,7 +80,7 @@ framed-when s len c h =
 -- where the records of an accepted frame stand
 pub framed-holds : (s : List ℕ) (len c : ℕ) → framed s len ≡ accepted c → HoldsRecords s len c
 framed-holds s len c e =
-    let f = framed-sound s len c e in
+    let f = framed-good s len c e in
     let z = f .size in
     let n = f .distance in
     record { within = z .within; short = z .short; long = omega (arith, f .count) }

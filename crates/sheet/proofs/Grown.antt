@@ -1,4 +1,5 @@
--- The sheet that an accepted insert leaves, record by record. `insert-accepted` says it whole. Assumes nothing.
+-- The sheet that an accepted insert leaves, record by record (`insert-accepted`), and the order of records that are fetched
+-- (`fetched-ascending`). Assumes nothing.
 use mathlib.Core.Path.{_≡_, sym, ap, _∙_}
 use mathlib.Core.List.{List, [], _++_, append-assoc}
 use Prim.Native.Nat.{ℕ, suc, _+_, _^_, _≤_, _<_}
@@ -16,7 +17,7 @@ use Rattle.records.proofs.Order.{put-in-order-before, put-in-order-here, put-in
 use Rattle.sheet.specs.declared.Record.{Record}
 use Rattle.sheet.specs.Layout.{record-length, trailer, encoded, decoded}
 use Rattle.sheet.specs.Checking.{first, rows, checked, fetched}
-use Rattle.sheet.specs.Writing.{insertion, after-insert, Grown}
+use Rattle.sheet.specs.Writing.{insertion, after-insert, GrownSheet}
 use Rattle.sheet.proofs.RecordBytes.{decoded-encoded, key-decoded}
 use Rattle.sheet.proofs.Checks.{checked-when, checked-good, fetched-row, fetched-none}
 use Rattle.sheet.proofs.TrailerBytes.{length-trailer}
@@ -105,7 +106,7 @@ module _ (s : List ℕ) (len : ℕ) (r : Record) (c : ℕ) (n : r .number < 256 
 -- "The old records and the new one then stand by rising number, with the trailer brought up to date .. Heading and bytes past the
 -- new length keep their values"
 pub insert-accepted : (s : List ℕ) (len : ℕ) (r : Record) (c : ℕ) → r .number < 256 ^ key-width → insertion s len r ≡ accepted c
-    → Grown s (after-insert s len r) len c r
+    → GrownSheet s (after-insert s len r) len c r
 insert-accepted s len r c n e =
     let t = insertion-taken s len r c e in
     rw (insert-leaves s len r c e) (record {
@@ -120,9 +121,9 @@ insert-accepted s len r c n e =
     })
 
 -- of any sheet that checks, and so of this one, the records that are fetched stand by rising number
-pub fetched-rising : (s : List ℕ) (len c k : ℕ) (a b : Record) → checked s len ≡ accepted c → fetched s len k ≡ accepted a → fetched s len (suc k) ≡ accepted b
+pub fetched-ascending : (s : List ℕ) (len c k : ℕ) (a b : Record) → checked s len ≡ accepted c → fetched s len k ≡ accepted a → fetched s len (suc k) ≡ accepted b
     → a .number < b .number
-fetched-rising s len c k a b e p q =
+fetched-ascending s len c k a b e p q =
     let h : suc k < c = cases (ltb (suc k) c) (ltb-true (suc k) c) (λ f. absurd (accepted-not-refused (sym q ∙ fetched-none s len c (suc k) e (ltb-false (suc k) c f)))) in
     let x : a ≡ decoded (getD (rows s len c) k []) = accepted-same (sym p ∙ fetched-row s len c k e (omega arith)) in
     let y : b ≡ decoded (getD (rows s len c) (suc k) []) = accepted-same (sym q ∙ fetched-row s len c (suc k) e h) in

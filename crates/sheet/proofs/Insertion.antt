@@ -1,6 +1,5 @@
--- Insert a plot, in the words of document 01: what is refused changes nothing, and what is accepted leaves the old records and the
--- new one by rising number, with the trailer brought up to date, the heading and the bytes past the new length as they were.
--- Assumes nothing.
+-- A refused insert leaves every byte (`insert-refused`); of an accepted one, what was tested, what the buffer holds then, and the
+-- parts of that sheet. Assumes nothing.
 use mathlib.Core.Path.{_≡_, ap, _∙_}
 use mathlib.Core.List.{List}
 use Prim.Native.Nat.{ℕ, _+_, _*_, _^_, _<_}

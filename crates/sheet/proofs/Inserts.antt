@@ -1,4 +1,5 @@
--- An insert step by step: who is admitted, and the bytes that one more record leaves. Assumes nothing.
+-- An insert step by step: which numbers and lengths are admitted, the order of the refusals, and the bytes that one more record
+-- leaves. Assumes nothing.
 use mathlib.Core.Path.{_≡_, refl, sym, ap, _∙_}
 use mathlib.Core.Bool.{true, false, _||_}
 use mathlib.Core.List.{List, _++_}

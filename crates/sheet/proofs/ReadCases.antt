@@ -1,5 +1,5 @@
--- NumberFrom a record where a check has counted the records: each answer is given exactly where its case holds, and of a sheet that
--- checks it is what `fetch` answers. Assumes nothing.
+-- Read record k where a check has counted the records: each answer is given exactly where its case holds (`read-exactly`), and of a
+-- sheet that checks it is what `fetch` answers (`read-checked`). Assumes nothing.
 use mathlib.Core.Path.{_≡_, sym, ap, _∙_}
 use mathlib.Core.Bool.{true, false}
 use mathlib.Core.Logic.{_↔_}

@@ -5,7 +5,7 @@ use Prim.Native.Nat.{ℕ, _+_, _^_, _<_}
 use native.Mathlib.Omega.{arith}
 use lib.ListN.{length, take, drop, getD}
 use lib.Seq.{take-all, drop-drop}
-use Rattle.records.specs.Numbers.{Bytes, number, twos, total-width, packed, unpacked}
+use Rattle.records.specs.Numbers.{AreBytes, number, twos, total-width, packed, unpacked}
 use Rattle.records.specs.Parts.{part}
 use Rattle.records.specs.Rows.{key-width, key}
 use Rattle.records.proofs.Numbers.{drop-bytes, number-take, signed-twos, twos-below, twos-signed}
@@ -40,7 +40,7 @@ pub number-decoded : (s : List ℕ) (at : ℕ) → number (part s at key-width) 
 number-decoded s at = ap (λ (r : Record). r .number) (sym (decoded-at s at))
 
 -- a field that was read fits its width
-pub field-below : (s : List ℕ) (at k : ℕ) → Bytes s → k < length layout → getD (unpacked layout (drop at s)) k 0 < 256 ^ getD layout k 0
+pub field-below : (s : List ℕ) (at k : ℕ) → AreBytes s → k < length layout → getD (unpacked layout (drop at s)) k 0 < 256 ^ getD layout k 0
 field-below s at k h l = fit-at k l (unpacked-fit layout (drop at s) (drop-bytes at s h))
 
 -- ---- writing
@@ -67,7 +67,7 @@ decoded-encoded r n f =
     ap record-from (unpacked-all (values-fit r n f)) ∙ simp (signed-twos 1 (r .outline .i) (f .fits-i), signed-twos 1 (r .outline .j) (f .fits-j))
 
 -- and the bytes of a record that was read are those that were there
-values-again : (b : List ℕ) → Bytes b → values (decoded b) ≡ unpacked layout b
+values-again : (b : List ℕ) → AreBytes b → values (decoded b) ≡ unpacked layout b
 unfolding decoded
 values-again b h =
     rw (
@@ -75,7 +75,7 @@ values-again b h =
       twos-signed 1 (number (take 2 (drop 2 (drop 4 b)))) (number-take 2 (drop 2 (drop 4 b)) (drop-bytes 2 (drop 4 b) (drop-bytes 4 b h))),
     )
 
-pub encoded-decoded : (b : List ℕ) → Bytes b → length b ≡ record-length → encoded (decoded b) ≡ b
+pub encoded-decoded : (b : List ℕ) → AreBytes b → length b ≡ record-length → encoded (decoded b) ≡ b
 unfolding encoded
 encoded-decoded b h l =
     ap (packed layout) (values-again b h) ∙ packed-unpacked layout b h (omega arith) ∙ take-all record-length b (omega arith)

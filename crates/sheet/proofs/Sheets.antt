@@ -31,8 +31,8 @@ module _ (h : List ℕ) (rs : List (List ℕ)) (c : ℕ) (d : List ℕ) (len : �
   again : record-length * c < 256 ^ 4 → trailer-at (sheet h rs c d) (len - trailer-length) ≡ trailer-from (trailer-values c)
   again k = rw (append-assoc (h ++ joined rs) (trailer c) d) (trailer-again (h ++ joined rs) d (len - trailer-length) c front k)
 
-  pub sheet-sound : len ≤ sheet-limit → GoodFrame (sheet h rs c d) len c
-  sheet-sound k =
+  pub sheet-frame : len ≤ sheet-limit → GoodFrame (sheet h rs c d) len c
+  sheet-frame k =
       let z = again (omega arith) in
       let w = whole in
       record {
@@ -52,4 +52,4 @@ module _ (h : List ℕ) (rs : List (List ℕ)) (c : ℕ) (d : List ℕ) (len : �
       ∙ records-joined h (trailer c ++ d) (length h) refl m
 
   pub sheet-good : len ≤ sheet-limit → Ascending HasOctagon 0 rs → Good (sheet h rs c d) len c
-  sheet-good k g = record { frame = framed-when (sheet h rs c d) len c (sheet-sound k); records = rw sheet-rows g }
+  sheet-good k g = record { frame = framed-when (sheet h rs c d) len c (sheet-frame k); records = rw sheet-rows g }

@@ -1,4 +1,5 @@
--- Document 01's number and values for each case of this crate's answers. Assumes nothing.
+-- Document 01's number and values for each case of this crate's answers, a definition for each enum, and the refusal numbers by name.
+-- Assumes nothing.
 use Prim.Native.Nat.{ℕ}
 use Rattle.octagon.specs.Outcome.{Outcome, accepted, refused}
 use Rattle.sheet.specs.declared.Record.{Record}

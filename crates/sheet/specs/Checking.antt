@@ -1,5 +1,5 @@
--- What `check` and `fetch` answer: definitions that compute. proofs/CheckCases.antt says exactly when each answer of a check is
--- given. Assumes nothing.
+-- What `check`, `fetch` and `read` answer: definitions that compute. proofs/CheckCases.antt and proofs/ReadCases.antt say exactly when
+-- each answer of `check` and of `read` is given, proofs/Checks.antt what `fetch` answers. Assumes nothing.
 use mathlib.Core.Bool.{Bool, cond, not, _||_}
 use mathlib.Core.List.{List, [], _∷_}
 use Prim.Native.Nat.{ℕ, _+_, _-_, _*_, _≤_}

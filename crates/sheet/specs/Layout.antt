@@ -1,4 +1,5 @@
--- The bytes of a record and of a trailer, as document 01 lays them out, and the lengths it names. Assumes nothing.
+-- The bytes of a record and of a trailer, as document 01 lays them out, the lengths it names, and which outlines fit a record.
+-- Assumes nothing.
 use Prim.Native.Nat.{ℕ, _*_, _/_, _^_, _<_}
 use mathlib.Core.List.{List, [], _∷_, _++_}
 use lib.ListN.{getD, drop}

@@ -1,5 +1,5 @@
--- What `start` and `insert` answer, and what they leave in the buffer: definitions that compute. proofs/Starts.antt and
--- proofs/Grown.antt say what they mean. Assumes nothing.
+-- What `start` and `insert` answer and leave in the buffer: definitions that compute, and for each call what document 01 says of an
+-- accepted one (`StartedSheet`, `GrownSheet`), which proofs/Starts.antt and proofs/Grown.antt show of them. Assumes nothing.
 use mathlib.Core.Path.{_≡_}
 use mathlib.Core.Bool.{cond, _||_}
 use mathlib.Core.List.{List, _++_}
@@ -28,7 +28,7 @@ unfoldable pub after-start : List ℕ → ℕ → List ℕ
 after-start s h = left s (started s h) (λ _. splice s h (trailer 0))
 
 -- what an accepted start leaves in s, which is then s′
-pub record Started (s s′ : List ℕ) (h n : ℕ) : Type 0 where
+pub record StartedSheet (s s′ : List ℕ) (h n : ℕ) : Type 0 where
   -- it answers h + 16, and the sheet checks with no records
   pub length-is : n ≡ h + trailer-length
   pub checks : checked s′ n ≡ accepted 0
@@ -67,7 +67,7 @@ unfoldable pub after-insert : List ℕ → ℕ → Record → List ℕ
 after-insert s len r = left s (insertion s len r) (λ c. grown s len c (encoded r))
 
 -- s′ is the sheet s of len bytes and c records with the record r inserted
-pub record Grown (s s′ : List ℕ) (len c : ℕ) (r : Record) : Type 0 where
+pub record GrownSheet (s s′ : List ℕ) (len c : ℕ) (r : Record) : Type 0 where
   -- it checks, with one record more
   pub checks : checked s′ (len + record-length) ≡ accepted (c + 1)
   -- the new record is fetched at its place, the old ones before and after it in their order

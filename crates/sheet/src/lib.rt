@@ -1,7 +1,7 @@
 // Sheets of plots in lent buffers: a heading, records by rising plot number, and a trailer.
 //
-// specs/Layout.antt has the bytes of a record and of a trailer, specs/Checking.antt what `check` and `fetch` answer,
-// specs/Writing.antt what `start` and `insert` answer and leave in the buffer.
+// specs/Layout.antt has the bytes of a record and of a trailer, specs/Checking.antt what `check`, `fetch` and `read` answer,
+// specs/Cases.antt when each answer of `check` and `read` is given, specs/Writing.antt what `start` and `insert` answer and leave.
 ghost use mathlib.Core.Path.{_≡_};
 ghost use Rattle.sheet.specs.Answers.{«count-outcome», «record-outcome», «length-outcome»};
 ghost use Rattle.sheet.specs.Checking.{checked, fetched, read as «read-of»};

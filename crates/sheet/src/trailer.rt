@@ -31,7 +31,8 @@ const FIELDS: usize = 5;
 const WIDTHS: [usize; FIELDS] = [4, 4, 2, 2, 4];
 
 // The letters GRND, as the number that their bytes are.
-const LETTERS: u32 = (b'G' as u32) + 256 * ((b'R' as u32) + 256 * ((b'N' as u32) + 256 * (b'D' as u32)));
+const LETTERS: u32 = (b'G' as u32)
+    + 256 * ((b'R' as u32) + 256 * ((b'N' as u32) + 256 * (b'D' as u32)));
 
 // The trailer at an index.
 fn read_trailer(s: &[u8], at: usize) -> Trailer

@@ -19,42 +19,55 @@ rest2 n = ascii " cells" ++ rest3 n
 abbrev rest1 : ℕ → ℕ → List ℕ
 rest1 c n = (space ∷ decimal c) ++ rest2 n
 
--- what is left before the first word, after it, ..
+-- the start, after the first word, after the second, ..
+abbrev start1 : tie.After-put-word → tie.Start
+start1 c = c .before .before .before .before
+
+abbrev start2 : tie.After-put-number → tie.Start
+start2 c = start1 (c .before .before .before .before)
+
+abbrev start3 : tie.After-put-word2 → tie.Start
+start3 c = start2 (c .before .before .before .before .before)
+
+abbrev start4 : tie.After-put-number2 → tie.Start
+start4 c = start3 (c .before .before .before .before)
+
+-- what is still to be put before the first word, after it, ..
 to-put0 : (c : tie.Start) → let a = c .args in
     ToPut (a .text .now) (a .at) (last-line (a .plots) (a .cells)) (a .text .now) (a .at) (ascii "plots" ++ rest1 (a .plots) (a .cells))
 unfolding last-line
 to-put0 c = let a = c .args in to-put-all (a .text .now) (a .at) (last-line (a .plots) (a .cells)) (c .pre)
 
-to-put1 : (c : tie.After-put-word) → let a = c .before .before .before .before .args in
+to-put1 : (c : tie.After-put-word) → let a = start1 c .args in
     ToPut (a .text .now) (a .at) (last-line (a .plots) (a .cells)) (c .put-word .last .0) (c .put-word .result) (rest1 (a .plots) (a .cells))
-to-put1 c = to-put-more (ascii "plots") _ (to-put0 (c .before .before .before .before)) (c .put-word .ensures)
+to-put1 c = to-put-more (ascii "plots") _ (to-put0 (start1 c)) (c .put-word .ensures)
 
-to-put2 : (c : tie.After-put-number) → let a = c .before .before .before .before .before .before .before .before .args in
+to-put2 : (c : tie.After-put-number) → let a = start2 c .args in
     ToPut (a .text .now) (a .at) (last-line (a .plots) (a .cells)) (c .put-number .last .0) (c .put-number .result) (rest2 (a .cells))
 to-put2 c =
     let d = c .before .before .before .before in
-    to-put-more (space ∷ decimal (d .before .before .before .before .args .plots)) _ (to-put1 d) (c .put-number .ensures)
+    to-put-more (space ∷ decimal (start1 d .args .plots)) _ (to-put1 d) (c .put-number .ensures)
 
-to-put3 : (c : tie.After-put-word2) → let a = c .before .before .before .before .before .before .before .before .before .before .before .before .before .args in
+to-put3 : (c : tie.After-put-word2) → let a = start3 c .args in
     ToPut (a .text .now) (a .at) (last-line (a .plots) (a .cells)) (c .put-word2 .last .0) (c .put-word2 .result) (rest3 (a .cells))
 to-put3 c = to-put-more (ascii " cells") _ (to-put2 (c .before .before .before .before .before)) (c .put-word2 .ensures)
 
-to-put4 : (c : tie.After-put-number2) → let a = c .before .before .before .before .before .before .before .before .before .before .before .before .before .before .before .before .before .args in
+to-put4 : (c : tie.After-put-number2) → let a = start4 c .args in
     ToPut (a .text .now) (a .at) (last-line (a .plots) (a .cells)) (c .put-number2 .last .0) (c .put-number2 .result) (newline ∷ [])
 to-put4 c =
     let d = c .before .before .before .before in
-    to-put-more (space ∷ decimal (d .before .before .before .before .before .before .before .before .before .before .before .before .before .args .cells)) _ (to-put3 d) (c .put-number2 .ensures)
+    to-put-more (space ∷ decimal (start3 d .args .cells)) _ (to-put3 d) (c .put-number2 .ensures)
 
 put-number-requires : tie.Need-put-number-requires
-put-number-requires c κs = to-put-room (space ∷ decimal (c .before .before .before .before .before .before .before .args .plots)) _ (to-put1 (c .before .before .before))
+put-number-requires c κs = let d = c .before .before .before in to-put-room (space ∷ decimal (start1 d .args .plots)) _ (to-put1 d)
 
 put-number-requires-2 : tie.Need-put-number-requires-2
-put-number-requires-2 c κs =
-    let d = c .before .before .before in
-    to-put-room (space ∷ decimal (d .before .before .before .before .before .before .before .before .before .before .before .before .before .args .cells)) _ (to-put3 d)
+put-number-requires-2 c κs = let d = c .before .before .before in to-put-room (space ∷ decimal (start3 d .args .cells)) _ (to-put3 d)
 
 returns : tie.Need-returns
-returns c = to-put4 (c .before .before .before .before .before .before .before) .rest (c .before .before .put-word3 .ensures)
+returns c =
+    let at-last = c .before .before in
+    to-put4 (at-last .before .before .before .before .before) .rest (at-last .put-word3 .ensures)
 
 pub put-last-spec : {M : Type 1} → statement M
 put-last-spec =

@@ -8,7 +8,7 @@ use Rattle.report.proofs.Writing.{put-length, ToPut, to-put-all, to-put
 use Rattle.report.proofs.lines.put_refused.Statement.{statement}
 use Rattle.report.proofs.lines.put_refused.Tie as tie
 
--- what is left before the word and after it
+-- what is still to be put before the word and after it
 to-put0 : (c : tie.Start) → let a = c .args in
     ToPut (a .text .now) (a .at) (refused-line (a .number)) (a .text .now) (a .at) (ascii "refused" ++ spaced (decimal (a .number) ∷ []))
 unfolding refused-line
@@ -25,7 +25,7 @@ put-numbers-requires : tie.Need-put-numbers-requires
 put-numbers-requires c κs = to-put1 (c .before .before .before .before) .fits
 
 returns : tie.Need-returns
-returns c = to-put1 (c .before .before .before .before .before .before .before) .rest (c .before .before .put-numbers .ensures)
+returns c = let at-numbers = c .before .before in to-put1 (at-numbers .before .before .before .before .before) .rest (at-numbers .put-numbers .ensures)
 
 pub put-refused-spec : {M : Type 1} → statement M
 put-refused-spec =

@@ -58,19 +58,23 @@ put-row-requires c κs =
 
 loop-again : tie.Need-loop-again Inv-loop μ-loop
 loop-again c =
-    let d = c .before .before .before .before .before .before in
+    let at-row = c .before .before in
+    let at-cells = at-row .before .before in
+    let d = at-cells .before .before in
     let l = d .before .before .before .before in
     let t = d .before .before .before .loop-test .taken in
-    let f = c .before .before .before .before .cells .ensures in
+    let f = at-cells .cells .ensures in
     let h : l .loop .k < length (rs l) = omega (arith, many l, t) in (
       omega (arith, t),
-      row-more (rs l) (l .loop .k) h _ (is-plot d) _ f (l .loop .inv .1) (c .before .before .put-row .ensures),
+      row-more (rs l) (l .loop .k) h _ (is-plot d) _ f (l .loop .inv .1) (at-row .put-row .ensures),
       omega (arith, l .loop .inv .2, total-cells-more (rs l) (l .loop .k) h _ (is-plot d) _ f),
     )
 
 add-sum : tie.Need-add-sum Inv-loop μ-loop
 add-sum c =
-    let l = c .before .before .before .before .before .before .before .before .before .before in
+    let at-row = c .before .before in
+    let d = at-row .before .before .before .before in
+    let l = d .before .before .before .before in
     record { fits = omega (arith, loop-again c .2, total-cells-most (rs l), many l, l .before .before .before .fits .c) }
 
 returns-2 : tie.Need-returns-2 Inv-loop μ-loop

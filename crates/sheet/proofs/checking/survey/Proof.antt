@@ -20,32 +20,32 @@ Inv-loop s first count p₀ before₀ left₀ p before left =
 abbrev μ-loop : tie.MeasureT-loop
 μ-loop s first count p₀ before₀ left₀ p before left = left
 
+-- the start, from the loop
+abbrev start-of : tie.At-loop Inv-loop μ-loop → tie.Start Inv-loop μ-loop
+start-of c = c .before .before
+
 returns : tie.Need-returns Inv-loop μ-loop
 returns c =
     let at-judge = c .before .before .before in
-    let at-test = at-judge .before in
-    let at-loop = at-test .before in
-    let l = at-loop .loop in
-    let a = at-loop .before .before .args in
+    let at-turn = at-judge .before in
+    let l = at-turn .before .loop in
     let e = sym (at-judge .judge .ensures) ∙ ap number-outcome (c .before .k .given .1) in
-    sym (l .inv .1 ∙ survey-refused (a .count) (l .before) (a .s .now) (l .p) (l .left) _ (at-test .loop-test .taken) e)
+    sym (l .inv .1 ∙ survey-refused _ (l .before) _ (l .p) (l .left) _ (at-turn .loop-test .taken) e)
 
 loop-again : tie.Need-loop-again Inv-loop μ-loop
 loop-again c =
     let at-judge = c .before .before .before in
-    let at-test = at-judge .before in
-    let at-loop = at-test .before in
-    let l = at-loop .loop in
-    let a = at-loop .before .before .args in
-    let e = sym (at-judge .judge .ensures) ∙ ap number-outcome (c .before .number .given .1) in (
+    let at-turn = at-judge .before in
+    let l = at-turn .before .loop in
+    let a = start-of (at-turn .before) .args in (
       omega arith,
-      l .inv .1 ∙ survey-more (a .count) (l .before) (a .s .now) (l .p) (l .left) _ (at-test .loop-test .taken) e,
+      l .inv .1 ∙ survey-more (a .count) (l .before) (a .s .now) (l .p) (l .left) _ (at-turn .loop-test .taken) (sym (at-judge .judge .ensures) ∙ ap number-outcome (c .before .number .given .1)),
     )
 
 returns-2 : tie.Need-returns-2 Inv-loop μ-loop
 returns-2 c =
     let l = c .before .loop in
-    let a = c .before .before .before .args in
+    let a = start-of (c .before) .args in
     sym (l .inv .1 ∙ survey-end (a .count) (l .before) (a .s .now) (l .p) (l .left) (c .loop-test .left))
 
 pub survey-spec : {M : Type 1} → statement M
