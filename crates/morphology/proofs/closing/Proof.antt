@@ -1,21 +1,20 @@
 -- `closing` meets its contract: a refused dilation is handed back, and an accepted one eroded. Assumes nothing.
-use mathlib.Core.Path.{sym, _∙_, ap}
+use mathlib.Core.Path.{sym, _∙_}
 use borrow.Author.Needs.{needs}
-use Rattle.octagon.specs.Answers.{outcome}
-use Rattle.morphology.proofs.Calls.{is-accepted, is-refused}
-use Rattle.morphology.proofs.Closings.{closing-dilation-refused, closing-erosion}
+use Rattle.morphology.specs.Folds.{closed}
+use Rattle.morphology.proofs.Calls.{step-refused, step-accepted}
 use Rattle.morphology.proofs.closing.Statement.{statement}
 use Rattle.morphology.proofs.closing.Tie as tie
 
 returns : tie.Need-returns
-returns c =
-    let e = c .enum-told .given .1 in
-    ap outcome e ∙ sym (closing-dilation-refused _ _ _ (is-refused (c .before .before .dilate .ensures) e))
+unfolding closed
+returns c = step-refused _ (c .before .before .dilate .ensures) (c .enum-told .given .1)
 
 returns-2 : tie.Need-returns-2
+unfolding closed
 returns-2 c =
-    let b = c .before .before in
-    c .erode .ensures ∙ sym (closing-erosion _ _ _ (is-accepted (b .before .before .dilate .ensures) (b .dilated .given .1)))
+    let at-dilated = c .before .before in
+    c .erode .ensures ∙ sym (step-accepted _ (at-dilated .before .before .dilate .ensures) (at-dilated .dilated .given .1))
 
 pub closing-spec : {M : Type 1} → statement M
 closing-spec =
