@@ -19,31 +19,27 @@ is-accepted q e = sym q ∙ ap outcome e
 pub is-refused : {r : Answer} {o : Outcome Octagon} {k : ℕ} → outcome r ≡ o → r ≡ Refused k → o ≡ refused k
 is-refused q e = sym q ∙ ap outcome e
 
--- two steps: a refusal of the first is handed back, and an accepted value goes to the second
+-- two steps: a refusal of the first is handed back; where it is accepted, the answer x is that of the second
 pub step-refused : {r : Answer} {o : Outcome Octagon} {k : ℕ} (g : Octagon → Outcome Octagon) → outcome r ≡ o → r ≡ Refused k → outcome r ≡ then o g
 step-refused g q e = ap outcome e ∙ sym (rw (is-refused q e))
 
-pub step-accepted : {r : Answer} {o : Outcome Octagon} {a : Octagon} (g : Octagon → Outcome Octagon) → outcome r ≡ o → r ≡ Holds a → then o g ≡ g a
-step-accepted g q e = rw (is-accepted q e)
+pub step-accepted : {r : Answer} {o x : Outcome Octagon} {a : Octagon} (g : Octagon → Outcome Octagon) → outcome r ≡ o → r ≡ Holds a → x ≡ g a → x ≡ then o g
+step-accepted g q e d = d ∙ sym (rw (is-accepted q e))
 
--- a call on two operands: a refusal of the second is handed back, and two accepted ones go to the call
-pub second-refused : {r s : Answer} {o u : Outcome Octagon} {a : Octagon} {k : ℕ} (g : Octagon → Octagon → Outcome Octagon) →
-    outcome r ≡ o → r ≡ Holds a → outcome s ≡ u → s ≡ Refused k → outcome s ≡ then o (λ a. then u (λ b. g a b))
-second-refused g q e t u = ap outcome u ∙ sym (rw (is-accepted q e, is-refused t u))
-
-pub both-accepted : {p f a b : Octagon} (g : Octagon → Octagon → Outcome Octagon) → Accepted p f a b → with-both p f g ≡ g a b
-both-accepted g h = rw (h .of-p, h .of-f)
-
--- the choice of a test
-pub chosen : {t : Bool} (x y : Outcome Octagon) → t ≡ true → cond t x y ≡ x
-chosen x y h = rw h
-
-pub not-chosen : {t : Bool} (x y : Outcome Octagon) → t ≡ false → cond t x y ≡ y
-not-chosen x y h = rw h
+-- two operands that are both accepted: the answer x is that of the call on their normal forms
+pub both-accepted : {p f a b : Octagon} {x : Outcome Octagon} (g : Octagon → Octagon → Outcome Octagon) → Accepted p f a b → x ≡ g a b → x ≡ with-both p f g
+both-accepted g h d = rw (h .of-p, h .of-f) d
 
 -- too many folds, and few enough
-pub folds-refused : (n : ℕ) (o : Outcome Octagon) → fold-limit < n → within-folds n o ≡ refused too-many-folds
+pub folds-refused : (n : ℕ) (o : Outcome Octagon) → fold-limit < n → refused too-many-folds ≡ within-folds n o
 folds-refused n o l = rw (lt-ltb fold-limit n l)
 
-pub folds-taken : (n : ℕ) (o : Outcome Octagon) → n ≤ fold-limit → within-folds n o ≡ o
-folds-taken n o l = rw (le-ltb fold-limit n l)
+pub folds-taken : {x : Outcome Octagon} (n : ℕ) (o : Outcome Octagon) → n ≤ fold-limit → x ≡ o → x ≡ within-folds n o
+folds-taken n o l d = rw (le-ltb fold-limit n l) d
+
+-- opposed rows, and all others
+pub chosen : {t : Bool} {x : Outcome Octagon} (y : Outcome Octagon) → t ≡ true → x ≡ cond t x y
+chosen y h = rw h
+
+pub not-chosen : {t : Bool} {x y : Outcome Octagon} (z : Outcome Octagon) → t ≡ false → x ≡ y → x ≡ cond t z y
+not-chosen z h d = rw h d

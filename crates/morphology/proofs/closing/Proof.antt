@@ -1,5 +1,4 @@
 -- `closing` meets its contract: a refused dilation is handed back, and an accepted one eroded. Assumes nothing.
-use mathlib.Core.Path.{sym, _∙_}
 use borrow.Author.Needs.{needs}
 use Rattle.morphology.specs.Folds.{closed}
 use Rattle.morphology.proofs.Calls.{step-refused, step-accepted}
@@ -8,13 +7,11 @@ use Rattle.morphology.proofs.closing.Tie as tie
 
 returns : tie.Need-returns
 unfolding closed
-returns c = step-refused _ (c .before .before .dilate .ensures) (c .enum-told .given .1)
+returns c = search step-refused
 
 returns-2 : tie.Need-returns-2
 unfolding closed
-returns-2 c =
-    let at-dilated = c .before .before in
-    c .erode .ensures ∙ sym (step-accepted _ (at-dilated .before .before .dilate .ensures) (at-dilated .dilated .given .1))
+returns-2 c = search step-accepted
 
 pub closing-spec : {M : Type 1} → statement M
 closing-spec =

@@ -1,5 +1,4 @@
 -- `opening` meets its contract: a refused erosion is handed back, and an accepted one dilated. Assumes nothing.
-use mathlib.Core.Path.{sym, _∙_}
 use borrow.Author.Needs.{needs}
 use Rattle.morphology.specs.Operations.{opened}
 use Rattle.morphology.proofs.Calls.{step-refused, step-accepted}
@@ -8,13 +7,11 @@ use Rattle.morphology.proofs.opening.Tie as tie
 
 returns : tie.Need-returns
 unfolding opened
-returns c = step-refused _ (c .before .before .erode .ensures) (c .enum-told .given .1)
+returns c = search step-refused
 
 returns-2 : tie.Need-returns-2
 unfolding opened
-returns-2 c =
-    let at-eroded = c .before .before in
-    c .dilate .ensures ∙ sym (step-accepted _ (at-eroded .before .before .erode .ensures) (at-eroded .eroded .given .1))
+returns-2 c = search step-accepted
 
 pub opening-spec : {M : Type 1} → statement M
 opening-spec =
