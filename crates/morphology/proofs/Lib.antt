@@ -6,10 +6,9 @@ pub mod Differences
 pub mod Multiples
 pub mod DiagonalRows
 pub mod Holes
+pub mod Checks
 pub mod Operands
 pub mod OpposedOperands
-pub mod FoldedDilations
-pub mod FoldedErosions
 pub mod FewFolds
 pub mod Dilations
 pub mod Erosions

@@ -1,14 +1,20 @@
--- Opposed diagonal rows among operands, whose bounds may be slack: judged on their cells. Assumes nothing.
+-- Opposed diagonal rows among octagons whose bounds may be slack: judged on their cells. All others have sums of bounds for their
+-- dilation, and these have no octagon. Assumes nothing.
 use mathlib.Core.Path.{_≡_}
 use mathlib.Core.Logic.{_↔_, inl, inr}
 use mathlib.Core.Bool.{true}
+use Rattle.integers.proofs.Tests.{cases}
 use Rattle.octagon.specs.declared.Octagon.{Octagon}
-use Rattle.octagon.specs.Cells.{Cells, _≐_, In}
-use Rattle.morphology.specs.Sets.{Two, Rising, Falling, OpposedRows}
-use Rattle.morphology.specs.Operations.{are-opposed}
-use Rattle.morphology.proofs.DiagonalRows.{opposed-rows-test}
-use Rattle.morphology.proofs.SetLaws.{same-sym, same-some}
-use Rattle.morphology.proofs.Operands.{Operand}
+use Rattle.octagon.specs.Cells.{Cells, _≐_, Some, In, Normalised}
+use Rattle.octagon.specs.NormalForm.{normal-form}
+use Rattle.octagon.proofs.Vertices.{normal-normalised}
+use Rattle.morphology.specs.Sets.{Dilated, Two, Rising, Falling, OpposedRows}
+use Rattle.morphology.specs.Operations.{sums, are-opposed}
+use Rattle.morphology.proofs.Sums.{summed, summed-normal, sums-exact}
+use Rattle.morphology.proofs.DiagonalRows.{opposed-rows-test, not-opposed, not-opposed′}
+use Rattle.morphology.proofs.Holes.{no-octagon}
+use Rattle.morphology.proofs.SetLaws.{same-sym, same-trans, same-some, dilated-same}
+use Rattle.morphology.proofs.Operands.{Form, form-of}
 
 two-same : {A B : Cells} → A ≐ B → Two A → Two B
 unfolding same-some
@@ -24,9 +30,37 @@ pub opposed-same : {A B C D : Cells} → A ≐ C → B ≐ D → OpposedRows A B
 opposed-same e f (inl r) = inl (rising-same e (r .0), falling-same f (r .1))
 opposed-same e f (inr r) = inr (falling-same e (r .0), rising-same f (r .1))
 
--- the test on the normal forms of operands is true exactly where the operands are opposed rows
-pub rows-test : (p f a b : Octagon) → Operand p a → Operand f b → (are-opposed a b ≡ true) ↔ OpposedRows (In p) (In f)
+opposed-some : {A B : Cells} → OpposedRows A B → Some A × Some B
+opposed-some (inl r) = (r .0 .two .one, r .1 .two .one)
+opposed-some (inr r) = (r .0 .two .one, r .1 .two .one)
+
+-- the test on normal forms is true exactly where the bounds that they were made of hold opposed rows
+pub rows-test : (p f a b : Octagon) → Form p a → Form f b → (are-opposed a b ≡ true) ↔ OpposedRows (In p) (In f)
 rows-test p f a b h k = (
   λ t. opposed-same (h .cells) (k .cells) (opposed-rows-test a b (h .normal) (k .normal) .0 t),
   λ r. opposed-rows-test a b (h .normal) (k .normal) .1 (opposed-same (same-sym (h .cells)) (same-sym (k .cells)) r),
 )
+
+-- ---- any octagons that hold a cell, on the map or off it
+
+-- "In all other pairings the spread is the octagon whose normalised bounds are the sums."
+pub sums-are-dilation : (p f : Octagon) → Some (In p) → Some (In f) → ¬ (OpposedRows (In p) (In f)) →
+    (In (sums (normal-form p) (normal-form f)) ≐ Dilated (In p) (In f)) × Normalised (sums (normal-form p) (normal-form f))
+sums-are-dilation p f s t o =
+    let a = normal-form p in
+    let b = normal-form f in
+    let h = form-of p s in
+    let k = form-of f t in
+    let u = cases (are-opposed a b) (λ e. absurd (o (rows-test p f a b h k .0 e))) (λ e. e) in (
+      same-trans (sums-exact a b (h .normal) (k .normal) (not-opposed a b u) (not-opposed′ a b u)) (dilated-same (h .cells) (k .cells)),
+      normal-normalised (sums a b) (summed-normal a b (sums a b) (summed a b) (h .normal) (k .normal)),
+    )
+
+-- "Spreading one by the other leaves holes, so no octagon is the true answer."
+pub opposed-no-octagon : (p f s : Octagon) → OpposedRows (In p) (In f) → ¬ (In s ≐ Dilated (In p) (In f))
+opposed-no-octagon p f s r e =
+    let t = opposed-some r in
+    let h = form-of p (t .0) in
+    let k = form-of f (t .1) in
+    no-octagon (normal-form p) (normal-form f) s (h .normal) (k .normal) (opposed-same (same-sym (h .cells)) (same-sym (k .cells)) r)
+    (same-trans e (dilated-same (same-sym (h .cells)) (same-sym (k .cells))))

@@ -3,3 +3,4 @@ pub mod Sets
 pub mod Operations
 pub mod Premises
 pub mod Folds
+pub mod Cases

@@ -12,24 +12,15 @@ use Rattle.morphology.proofs.bounds.place.Tie as tie
 held : (c : tie.Start) → Held w32 (c .args .o)
 held c = search signs
 
--- the start, from the place where each bound is read
-abbrev from0 : tie.After-struct-told → tie.Start
-from0 c = c .before .before
-
-abbrev from2 : tie.After-struct-told2 → tie.Start
-from2 c = from0 (c .before .before)
-
-abbrev from4 : tie.After-struct-told3 → tie.Start
-from4 c = from2 (c .before .before)
-
-abbrev from6 : tie.After-struct-told4 → tie.Start
-from6 c = from4 (c .before .before)
+-- `search` finds the start among the places before
+abbrev start-of : tie.After-on-map → tie.Start
+start-of c = search
 
 -- the test, on the bounds as they were passed
-tested : (c : tie.After-on-map) → c .on-map .result ≡ is-on-map (from6 (c .before) .args .o)
+tested : (c : tie.After-on-map) → c .on-map .result ≡ is-on-map (start-of c .args .o)
 unfolding is-on-map
 tested c =
-    let s = from6 (c .before) in
+    let s = start-of c in
     let h = held s in
     c .on-map .ensures ∙
     rw (toZ-ofZ (widened (h .held0)), toZ-ofZ (widened (h .held2)), toZ-ofZ (widened (h .held4)), toZ-ofZ (widened (h .held6)))
@@ -47,10 +38,10 @@ pub place-spec : {M : Type 1} → statement M
 place-spec =
     tie.close
     (tie.spec
-    (λ c. widened (held (from0 c) .held0))
-    (λ c. widened (held (from2 c) .held2))
-    (λ c. widened (held (from4 c) .held4))
-    (λ c. widened (held (from6 c) .held6))
+    (λ c. widened (held (search) .held0))
+    (λ c. widened (held (search) .held2))
+    (λ c. widened (held (search) .held4))
+    (λ c. widened (held (search) .held6))
     (λ c κs. tt)
     returns
     returns-2)

@@ -21,6 +21,10 @@ same c = ap₂ sums (back-is w32 (c .args .a) (held-a c)) (back-is w32 (c .args 
 ready : (c : tie.Start) → Held w32 (sums (back w32 (c .args .a)) (back w32 (c .args .b)))
 ready c = rw (same c) (c .pre)
 
+-- `search` finds the start among the places before a call; from the later calls it is reached by the fourth
+abbrev start-of : tie.After-add4 → tie.Start
+start-of c = search
+
 returns : tie.Need-returns
 unfolding sums
 returns c =
@@ -48,12 +52,12 @@ unfolding sums
 sums-spec =
     tie.close
     (tie.spec
-    (λ c κs. ready (c .before .before) .held0)
-    (λ c κs. ready (c .before .before .before .before .before) .held1)
-    (λ c κs. ready (c .before .before .before .before .before .before .before .before) .held2)
-    (λ c κs. ready (c .before .before .before .before .before .before .before .before .before .before .before) .held3)
-    (λ c κs. ready (c .before .before .before .before .before .before .before .before .before .before .before .before .before .before) .held4)
-    (λ c κs. ready (c .before .before .before .before .before .before .before .before .before .before .before .before .before .before .before .before .before) .held5)
-    (λ c κs. ready (c .before .before .before .before .before .before .before .before .before .before .before .before .before .before .before .before .before .before .before .before) .held6)
-    (λ c κs. ready (c .before .before .before .before .before .before .before .before .before .before .before .before .before .before .before .before .before .before .before .before .before .before .before) .held7)
+    (λ c κs. ready (search) .held0)
+    (λ c κs. ready (search) .held1)
+    (λ c κs. ready (search) .held2)
+    (λ c κs. ready (search) .held3)
+    (λ c κs. ready (search start-of) .held4)
+    (λ c κs. ready (search start-of) .held5)
+    (λ c κs. ready (search start-of) .held6)
+    (λ c κs. ready (search start-of) .held7)
     returns)
