@@ -21,7 +21,7 @@ north k = getD (getD steps k []) 1 (pos 0)
 abbrev pub side : Outline → ℕ → ℕ
 side o k = getD (o .n0 ∷ o .n1 ∷ o .n2 ∷ o .n3 ∷ o .n4 ∷ o .n5 ∷ o .n6 ∷ o .n7 ∷ []) k 0
 
--- the corners of the walk: corner 0 is the start, corner k+1 is corner k moved n(k) steps along d(k)
+-- the vertices of the walk, document 01's corners: corner 0 is the start, corner k+1 is corner k moved n(k) steps along d(k)
 unfoldable pub vertex : Outline → ℕ → Cell
 vertex o zero = record { x = o .i; y = o .j }
 vertex o (suc k) = record {

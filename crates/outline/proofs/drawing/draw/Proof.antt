@@ -13,7 +13,7 @@ use Rattle.outline.specs.declared.Outline.{Outline}
 use Rattle.outline.specs.declared.walk.Cell.{Cell}
 use Rattle.outline.specs.Walk.{vertex}
 use Rattle.outline.specs.Tracing.{bounds-at, drawn}
-use Rattle.outline.proofs.Range.{Held, Roomy, corner-room}
+use Rattle.outline.proofs.Range.{Held, Roomy, vertex-room}
 use Rattle.outline.proofs.drawing.draw.Statement.{statement}
 use Rattle.outline.proofs.drawing.draw.Tie as tie
 
@@ -50,16 +50,16 @@ held c = search needs
 
 -- the vertices that were walked to
 room1 : (c : tie.After-vertex) → Roomy (c .vertex .result)
-room1 c = rw (c .vertex .ensures) (corner-room _ (held (c .before)) 1 (omega arith))
+room1 c = rw (c .vertex .ensures) (vertex-room _ (held (c .before)) 1 (omega arith))
 
 room3 : (c : tie.After-vertex2) → Roomy (c .vertex2 .result)
-room3 c = rw (c .vertex2 .ensures) (corner-room _ (held (c .before .before)) 3 (omega arith))
+room3 c = rw (c .vertex2 .ensures) (vertex-room _ (held (c .before .before)) 3 (omega arith))
 
 room5 : (c : tie.After-vertex3) → Roomy (c .vertex3 .result)
-room5 c = rw (c .vertex3 .ensures) (corner-room _ (held (c .before .before .before)) 5 (omega arith))
+room5 c = rw (c .vertex3 .ensures) (vertex-room _ (held (c .before .before .before)) 5 (omega arith))
 
 room7 : (c : tie.After-vertex4) → Roomy (c .vertex4 .result)
-room7 c = rw (c .vertex4 .ensures) (corner-room _ (held (c .before .before .before .before)) 7 (omega arith))
+room7 c = rw (c .vertex4 .ensures) (vertex-room _ (held (c .before .before .before .before)) 7 (omega arith))
 
 -- from a field that was read, and from the test, back to the last of them
 abbrev at-read : tie.After-struct-told → tie.After-vertex4

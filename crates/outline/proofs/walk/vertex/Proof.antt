@@ -1,4 +1,4 @@
--- `vertex` meets its contract. The loop's invariant: the cell is corner m of the walk. The measure is what is left of k.
+-- `vertex` meets its contract. The loop's invariant: the cell is vertex m of the walk. The measure is what is left of k.
 -- Assumes nothing.
 use mathlib.Core.Path.{_≡_, _∙_, ap}
 use Prim.Native.Nat.{ℕ, suc, _≤_, _<_, _-_, _^_}
@@ -14,7 +14,7 @@ use Rattle.integers.proofs.Range.{signs, kept, room-fits}
 use Rattle.outline.specs.Walk.{east, north, side, vertex}
 use Rattle.outline.specs.declared.Outline.{Outline}
 use Rattle.outline.specs.declared.walk.Cell.{Cell}
-use Rattle.outline.proofs.Range.{Held, corner-room}
+use Rattle.outline.proofs.Range.{Held, vertex-room}
 use Rattle.outline.proofs.walk.vertex.Statement.{statement}
 use Rattle.outline.proofs.walk.vertex.Tie as tie
 
@@ -39,7 +39,7 @@ read-back f p r q h = rw (kept w32 r, p, toZ-ofZ f, q, h)
 cell : (o : Outline) → Held o → (m k : ℕ) → k ≤ 8 → {x y : ℕ} → x ≡ ofZ w64 (vertex o m .x) → y ≡ ofZ w64 (vertex o m .y) → m ≡ k →
     _≡_ {A = Cell} (record { x = toZ w64 x; y = toZ w64 y }) (vertex o k)
 cell o h m k l e f q =
-    let r = corner-room o h k l in
+    let r = vertex-room o h k l in
     rw (e, f, q, toZ-ofZ (room-fits (r .room-x)), toZ-ofZ (room-fits (r .room-y)))
 
 held : (c : tie.Start Inv-loop μ-loop) → Held (c .args .o)
@@ -57,14 +57,14 @@ side-requires c κs = omega arith
 east-requires : tie.Need-east-requires Inv-loop μ-loop
 east-requires c κs = omega arith
 
--- the two moves of a turn lead to the next corner
+-- the two moves of a turn lead to the next vertex
 x-next : (c : tie.After-east Inv-loop μ-loop) →
     toZ w64 (c .before .before .before .loop .x) +ℤ toZ w32 (ofZ w32 (c .east .result)) *ℤ pos (c .before .side .result)
     ≡ vertex (c .before .before .before .before .before .before .before .before .args .o) (suc (c .before .before .before .loop .m)) .x
 unfolding vertex
 x-next c =
     let l = c .before .before .before in
-    let r = corner-room _ (held (l .before .before .before .before .before)) (l .loop .m) (omega arith) in
+    let r = vertex-room _ (held (l .before .before .before .before .before)) (l .loop .m) (omega arith) in
     read-back (room-fits (r .room-x)) (l .loop .inv .1) (c .east .ok) (c .east .ensures) (c .before .side .ensures)
 
 y-next : (c : tie.After-north Inv-loop μ-loop) →
@@ -73,13 +73,13 @@ y-next : (c : tie.After-north Inv-loop μ-loop) →
 unfolding vertex
 y-next c =
     let l = c .before .before .before .before .before in
-    let r = corner-room _ (held (l .before .before .before .before .before)) (l .loop .m) (omega arith) in
+    let r = vertex-room _ (held (l .before .before .before .before .before)) (l .loop .m) (omega arith) in
     read-back (room-fits (r .room-y)) (l .loop .inv .2) (c .north .ok) (c .north .ensures) (c .before .before .before .side .ensures)
 
 moved-requires : tie.Need-moved-requires Inv-loop μ-loop
 moved-requires c κs =
     let s = c .before .before .before .before .before .before .before .before in
-    rw (x-next c) (room-fits (corner-room _ (held s) _ (omega arith) .room-x))
+    rw (x-next c) (room-fits (vertex-room _ (held s) _ (omega arith) .room-x))
 
 north-requires : tie.Need-north-requires Inv-loop μ-loop
 north-requires c κs = omega arith
@@ -87,7 +87,7 @@ north-requires c κs = omega arith
 moved-requires-2 : tie.Need-moved-requires-2 Inv-loop μ-loop
 moved-requires-2 c κs =
     let s = c .before .before .before .before .before .before .before .before .before .before in
-    rw (y-next c) (room-fits (corner-room _ (held s) _ (omega arith) .room-y))
+    rw (y-next c) (room-fits (vertex-room _ (held s) _ (omega arith) .room-y))
 
 add-m : tie.Need-add-m Inv-loop μ-loop
 add-m c = omega arith

@@ -1,21 +1,21 @@
--- `corner_place` meets its contract: a corner that fits is cast, and each number is a quarter. Assumes nothing.
+-- `place_of_vertex` meets its contract: a vertex that fits is cast, and each number is a quarter. Assumes nothing.
 use native.Mathlib.Omega.{arith}
 use mir.Facts.{toZ-ofZ}
 use borrow.Author.Tests.{lt-ltb, le-ltb}
 use Rattle.integers.proofs.Range.{wide-fits}
-use Rattle.outline.specs.Places.{HeldCell, corner-place}
-use Rattle.outline.proofs.corner.corner_place.Statement.{statement}
-use Rattle.outline.proofs.corner.corner_place.Tie as tie
+use Rattle.outline.specs.Places.{HeldCell, place-of-vertex}
+use Rattle.outline.proofs.locating.place_of_vertex.Statement.{statement}
+use Rattle.outline.proofs.locating.place_of_vertex.Tie as tie
 
 fitting : (c : tie.After-vertex) → HeldCell (c .vertex .result)
 fitting c = rw (c .vertex .ensures) (c .before .before .pre (c .before .before .args .k) (omega arith))
 
 returns : tie.Need-returns
-unfolding corner-place
+unfolding place-of-vertex
 returns c = rw (lt-ltb 7 (c .before .args .k) (c .if1 .taken))
 
 returns-2 : tie.Need-returns-2
-unfolding corner-place
+unfolding place-of-vertex
 returns-2 c =
     let v = c .before .before .before .before .before in
     let f = fitting v in
@@ -29,8 +29,8 @@ returns-2 c =
       v .vertex .ensures,
     )
 
-pub corner-place-spec : {M : Type 1} → statement M
-corner-place-spec =
+pub place-of-vertex-spec : {M : Type 1} → statement M
+place-of-vertex-spec =
     tie.close
     (tie.spec
     returns
