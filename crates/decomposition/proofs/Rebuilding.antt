@@ -155,16 +155,16 @@ module _ (k : Counts) (s : Start) where
 
 -- ---- the counts that are computed
 
-joined-whole : (k : Counts) → ¬ (Alone (with-k13 k))
+with-k13-whole : (k : Counts) → ¬ (Alone (with-k13 k))
 unfolding with-k13
-joined-whole k = cases (is-crossed k) (λ t. rw t (λ a. omega arith)) (λ f. rw f (λ a. true-is-not-false (sym (crossed-test k (crossed a)) ∙ f)))
+with-k13-whole k = cases (is-crossed k) (λ t. rw t (λ a. omega arith)) (λ f. rw f (λ a. true-is-not-false (sym (crossed-test k (crossed a)) ∙ f)))
   where
     crossed : Alone k → Crossed k
     crossed a = omega arith
 
 counts-whole : (o : Outline) → ¬ (Alone (counts o))
 unfolding counts
-counts-whole o = joined-whole (first-counts o)
+counts-whole o = with-k13-whole (first-counts o)
 
 between : (o p q : Outline) → SameSides p o → SameSides q p → SameSides o q
 between o p q e f = omega arith

@@ -1,6 +1,5 @@
 -- The thirteen pieces as outlines, and the set of cells that counted pieces make. This file, with the table of pieces in outline's
 -- specs/Tables.antt, is what a reader must believe of pieces. Assumes nothing.
-use mathlib.Core.Path.{_≡_}
 use mathlib.Core.List.{List, [], _∷_, map}
 use Prim.Native.Nat.{ℕ}
 use lib.IntN.{pos}
@@ -9,6 +8,7 @@ use Rattle.octagon.specs.Cells.{Cells}
 use Rattle.outline.specs.declared.Outline.{Outline}
 use Rattle.outline.specs.Tables.{pieces, piece-sides}
 use Rattle.outline.specs.Walk.{InsideWalk}
+use Rattle.outline.specs.Meaning.{OneCell}
 use Rattle.morphology.specs.Sets.{DilatedTimes}
 use Rattle.decomposition.specs.declared.Start.{Start}
 use Rattle.decomposition.specs.declared.Counts.{Counts}
@@ -48,7 +48,7 @@ listed k =
 
 -- the start cell alone
 abbrev pub Only : Start → Cells
-Only s x y = (x ≡ s .i) × (y ≡ s .j)
+Only s = OneCell (s .i) (s .j)
 
 -- a set dilated by each piece as often as it is counted, one kind after the other; a piece's cells are those inside its outline
 abbrev pub DilatedByEach : List ℕ → List Outline → Cells → Cells

@@ -131,7 +131,7 @@ fn is_crossed(k: Counts) -> bool
 }
 
 // The last step: where K2 and K4 are there and nothing else is, one of each becomes one K13.
-fn joined(k: Counts) -> Counts
+fn with_k13(k: Counts) -> Counts
     ensures { λ r. ⌜ r ≡ splitting.with-k13 k ⌝ }
 {
     if is_crossed(k) {
@@ -158,5 +158,5 @@ fn joined(k: Counts) -> Counts
 pub fn count_pieces(o: Outline) -> Counts
     ensures { λ r. ⌜ r ≡ splitting.counts o ⌝ }
 {
-    joined(with_rows(o, count_triangles(rest(o))))
+    with_k13(with_rows(o, count_triangles(rest(o))))
 }

@@ -7,7 +7,7 @@ returns : tie.Need-returns
 unfolding counts first-counts
 returns c =
     rw (
-      c .joined .ensures,
+      c .with-k13 .ensures,
       c .before .with-rows .ensures,
       c .before .before .count-triangles .ensures,
       c .before .before .before .rest .ensures,
