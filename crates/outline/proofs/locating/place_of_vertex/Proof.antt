@@ -8,7 +8,16 @@ use Rattle.outline.proofs.locating.place_of_vertex.Statement.{statement
 use Rattle.outline.proofs.locating.place_of_vertex.Tie as tie
 
 fitting : (c : tie.After-vertex) → HeldCell (c .vertex .result)
-fitting c = rw (c .vertex .ensures) (c .before .before .pre (c .before .before .args .k) (omega arith))
+fitting c =
+    let s = c .before .before in
+    rw (c .vertex .ensures) (s .pre (s .args .k) (omega arith))
+
+-- from a coordinate that was read back to the vertex
+abbrev at-x : tie.After-struct-told → tie.After-vertex
+at-x c = c .before .before
+
+abbrev at-y : tie.After-struct-told2 → tie.After-vertex
+at-y c = at-x (c .before .before)
 
 returns : tie.Need-returns
 unfolding place-of-vertex
@@ -17,10 +26,11 @@ returns c = rw (lt-ltb 7 (c .before .args .k) (c .if1 .taken))
 returns-2 : tie.Need-returns-2
 unfolding place-of-vertex
 returns-2 c =
-    let v = c .before .before .before .before .before in
+    let v = at-y (c .before) in
+    let at-if = v .before in
     let f = fitting v in
     rw (
-      le-ltb 7 (v .before .before .args .k) (v .before .if1 .left),
+      le-ltb 7 (at-if .before .args .k) (at-if .if1 .left),
       c .place-of .ensures,
       toZ-ofZ (wide-fits (f .fits-x)),
       toZ-ofZ (wide-fits (f .fits-y)),
@@ -35,7 +45,7 @@ place-of-vertex-spec =
     (tie.spec
     returns
     (λ c κs. omega arith)
-    (λ c. let f = fitting (c .before .before) in rw (toZ-ofZ (wide-fits (f .fits-x))) (f .fits-x))
-    (λ c. let f = fitting (c .before .before .before .before) in rw (toZ-ofZ (wide-fits (f .fits-y))) (f .fits-y))
+    (λ c. let f = fitting (at-x c) in rw (toZ-ofZ (wide-fits (f .fits-x))) (f .fits-x))
+    (λ c. let f = fitting (at-y c) in rw (toZ-ofZ (wide-fits (f .fits-y))) (f .fits-y))
     (λ c κs. tt)
     returns-2)
