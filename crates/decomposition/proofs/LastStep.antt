@@ -1,4 +1,4 @@
--- The last step of the counts: the test that the code makes says what document 01 says. Assumes nothing.
+-- The last step of the counts: the test that the code makes says what document 01 says, and all sides stay. Assumes nothing.
 use mathlib.Core.Path.{_≡_, sym, _∙_}
 use mathlib.Core.Bool.{true, false, cond, _&&_}
 use mathlib.Core.Logic.{_↔_}

@@ -18,7 +18,7 @@ use Rattle.morphology.proofs.SetLaws.{same-refl, same-trans, dilated-times-same
 use Rattle.decomposition.specs.declared.Start.{Start}
 use Rattle.decomposition.specs.declared.Counts.{Counts}
 use Rattle.decomposition.specs.Pieces.{outlines, piece-of, listed, Only, DilatedByEach, Rebuilt}
-use Rattle.decomposition.specs.Rule.{others, Crossed}
+use Rattle.decomposition.specs.Rule.{others, Crossed, recounted}
 use Rattle.decomposition.specs.Splitting.{first-counts, is-crossed, with-k13, counts, split-of}
 use Rattle.decomposition.proofs.Sides.{SameSides, made}
 use Rattle.decomposition.proofs.Choice.{counts-made}
@@ -71,21 +71,7 @@ record Alone (k : Counts) : Type 0 where
 
 -- the sides that all but the diagonal rows make
 abbrev wide : Counts → Outline
-wide k = made (record {
-  k1 = k .k1;
-  k2 = 0;
-  k3 = k .k3;
-  k4 = 0;
-  k5 = k .k5;
-  k6 = k .k6;
-  k7 = k .k7;
-  k8 = k .k8;
-  k9 = k .k9;
-  k10 = k .k10;
-  k11 = k .k11;
-  k12 = k .k12;
-  k13 = k .k13;
-})
+wide k = made (recounted k 0 0 (k .k13))
 
 each-wide : (k : Counts) (s : Start) → SameSides (plus-each (broad-counts k) broads (cell-at s)) (wide k)
 unfolding broads piece-of piece-sides outlines pieces

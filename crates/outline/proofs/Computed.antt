@@ -1,8 +1,9 @@
--- Small values of the definitions, computed by antt: an outline whose eight sides differ, and its vertices in metres. Assumes nothing.
+-- Small values of the definitions, computed: an outline whose eight sides differ, its octagon, its vertices in metres, and refusals.
+-- Assumes nothing.
 use mathlib.Core.Path.{_≡_, refl}
 use mathlib.Core.Bool.{true, false}
-use Prim.Native.Nat.{ℕ}
-use lib.IntN.{ℤ, pos, negsuc}
+use mathlib.Core.List.{[], _∷_}
+use lib.IntN.{pos, negsuc}
 use lib.Ieee.{fin, round}
 use Rattle.integers.specs.Minimum.{minℤ, halfℤ}
 use Rattle.octagon.specs.declared.Octagon.{Octagon}
@@ -10,18 +11,14 @@ use Rattle.octagon.specs.Outcome.{accepted, refused}
 use Rattle.octagon.specs.NormalForm.{even-bound, odd-bound, tight-even, tight-odd, normal-form, sides, has-cell, is-on-map, placed, normalised}
 use Rattle.outline.specs.declared.Outline.{Outline}
 use Rattle.outline.specs.Closing.{closes}
-use Rattle.outline.specs.Walk.{vertex}
+use Rattle.outline.specs.Walk.{with-sides, vertex}
 use Rattle.outline.specs.Tracing.{bounds-at, drawn, traced}
 use Rattle.outline.specs.Outlining.{outline-of, outlined}
 use Rattle.outline.specs.Places.{over, place-of-vertex, located}
 
--- an outline by its start and its sides
-abbrev with-sides : ℤ → ℤ → ℕ → ℕ → ℕ → ℕ → ℕ → ℕ → ℕ → ℕ → Outline
-with-sides i j n0 n1 n2 n3 n4 n5 n6 n7 = record { i = i; j = j; n0 = n0; n1 = n1; n2 = n2; n3 = n3; n4 = n4; n5 = n5; n6 = n6; n7 = n7 }
-
 -- the outline from (-4, -5) with the sides 3 1 14 2 5 4 6 7, and its bounds
 abbrev uneven : Outline
-uneven = with-sides (negsuc 3) (negsuc 4) 3 1 14 2 5 4 6 7
+uneven = with-sides (negsuc 3) (negsuc 4) (3 ∷ 1 ∷ 14 ∷ 2 ∷ 5 ∷ 4 ∷ 6 ∷ 7 ∷ [])
 
 abbrev its-bounds : Octagon
 its-bounds = record { c0 = pos 5; c1 = pos 4; c2 = pos 0; c3 = pos 10; c4 = pos 12; c5 = pos 19; c6 = pos 11; c7 = pos 9 }
@@ -35,12 +32,12 @@ unfolding outlined normalised normal-form tight-odd tight-even even-bound odd-bo
 back = refl
 
 -- with its first side one longer it does not close
-one-longer : traced (with-sides (negsuc 3) (negsuc 4) 4 1 14 2 5 4 6 7) ≡ refused 3
+one-longer : traced (with-sides (negsuc 3) (negsuc 4) (4 ∷ 1 ∷ 14 ∷ 2 ∷ 5 ∷ 4 ∷ 6 ∷ 7 ∷ [])) ≡ refused 3
 unfolding traced closes
 one-longer = refl
 
 -- lengths whose sums wrap 32 bits close, and leave the map
-long : traced (with-sides (negsuc 3) (negsuc 4) 4294967295 0 4294967294 0 4294967295 0 4294967294 0) ≡ refused 2
+long : traced (with-sides (negsuc 3) (negsuc 4) (4294967295 ∷ 0 ∷ 4294967294 ∷ 0 ∷ 4294967295 ∷ 0 ∷ 4294967294 ∷ 0 ∷ [])) ≡ refused 2
 unfolding traced closes placed is-on-map drawn bounds-at vertex
 long = refl
 

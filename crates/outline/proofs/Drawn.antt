@@ -1,4 +1,5 @@
--- The bounds of an outline as linear facts, and that they are normalised where it closes. Assumes nothing.
+-- The vertices and bounds of an outline as linear facts. Where it closes its bounds are normalised, and on the map they fit 32 bits.
+-- Assumes nothing.
 use mathlib.Core.Path.{_≡_}
 use mathlib.Core.Bool.{true}
 use Prim.Native.Nat.{_+_}

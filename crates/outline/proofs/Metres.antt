@@ -1,4 +1,4 @@
--- Vertices in metres, in the words of document 01. Assumes nothing.
+-- Vertices in metres, in the words of document 01: exact quarters, and what each refusal says. Assumes nothing.
 use mathlib.Core.Path.{_≡_, refl, sym, ap, _∙_}
 use mathlib.Core.Bool.{true}
 use mathlib.Core.Logic.{_↔_, _⊎_, inl, inr, ⊎-elim}

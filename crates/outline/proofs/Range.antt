@@ -1,4 +1,4 @@
--- How far a walk can go: from a start and lengths of 32 bits every vertex is far within 64. Assumes nothing.
+-- How far a walk can go: from a start and lengths of 32 bits every vertex, and every move, is within 64. Assumes nothing.
 use Prim.Native.Nat.{ℕ, zero, suc, _*_, _^_, _<_, _≤_}
 use native.Mathlib.Nat.{mul-le-mul-right, lt-of-le-of-lt}
 use native.Mathlib.Omega.{arith}

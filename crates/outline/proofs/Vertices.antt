@@ -1,4 +1,5 @@
--- The vertices of an accepted outline, in the words of document 01: where they lie, and which the start is. Assumes nothing.
+-- The vertices of an accepted outline, in the words of document 01: where they lie, which the start
+-- is, and when the walk comes back to it. Assumes nothing.
 use mathlib.Core.Path.{_≡_, ap}
 use mathlib.Core.Logic.{_↔_}
 use Prim.Native.Nat.{ℕ, _+_, _%_, _<_}

@@ -1,4 +1,5 @@
--- What contracts and theorems on outlines cite: closing, the tables of steps and pieces, the walk, the octagon of an outline and the outline of an octagon, places in metres, what answers mean.
+-- What contracts and theorems on outlines cite: closing, the tables of steps and pieces, the walk, the octagon of an outline and the
+-- outline of an octagon, places in metres, and what the answers mean.
 pub mod Closing
 pub mod Tables
 pub mod Walk

@@ -12,7 +12,7 @@ use Rattle.outline.specs.declared.Outline.{Outline}
 use Rattle.outline.specs.declared.walk.Cell.{Cell}
 use Rattle.outline.specs.declared.place.Place.{Place}
 use Rattle.outline.specs.Closing.{Closes}
-use Rattle.outline.specs.Walk.{vertex, InsideWalk}
+use Rattle.outline.specs.Walk.{with-sides, vertex, InsideWalk}
 use Rattle.outline.specs.Outlining.{outlined}
 use Rattle.outline.specs.Places.{Exactly}
 
@@ -32,7 +32,7 @@ pub record PastStart (o : Outline) (x y : ℤ) : Type 0 where
 
 -- "all lengths 0": the outline at (i, j) that has no side
 abbrev pub no-sides : ℤ → ℤ → Outline
-no-sides i j = record { i = i; j = j; n0 = 0; n1 = 0; n2 = 0; n3 = 0; n4 = 0; n5 = 0; n6 = 0; n7 = 0 }
+no-sides i j = with-sides i j []
 
 -- "one cell": the cell (i, j) alone
 abbrev pub OneCell : ℤ → ℤ → Cells

@@ -1,7 +1,8 @@
 // Outlines, the field's boundary code (B-code), to octagons and back, and the vertices of an octagon in metres.
 //
-// specs/Walk.antt has the walk round an outline and the cells inside it; specs/Tracing.antt, Outlining.antt and Places.antt what the three
-// calls answer; proofs/Tracings.antt, Vertices.antt, RoundTrips.antt and Metres.antt the theorems between them.
+// tables.rt and specs/Tables.antt have the step vectors and the pieces. specs/Walk.antt has the walk round an outline and the cells inside
+// it; specs/Tracing.antt, Outlining.antt and Places.antt what the three calls answer, specs/Meaning.antt what that means;
+// proofs/Tracings.antt, OneCell.antt, Vertices.antt, RoundTrips.antt and Metres.antt the theorems between them.
 ghost use mathlib.Core.Path.{_≡_};
 ghost use Rattle.octagon.specs.Answers.{outcome as «octagon-outcome»};
 ghost use Rattle.outline.specs.Tracing.{traced};
