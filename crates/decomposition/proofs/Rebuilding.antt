@@ -18,7 +18,7 @@ use Rattle.morphology.proofs.SetLaws.{same-refl, same-trans, dilated-times-same
 use Rattle.decomposition.specs.declared.Start.{Start}
 use Rattle.decomposition.specs.declared.Counts.{Counts}
 use Rattle.decomposition.specs.Pieces.{outlines, piece-of, listed, Only, DilatedByEach, Rebuilt}
-use Rattle.decomposition.specs.Rule.{others, Crossed}
+use Rattle.decomposition.specs.Rule.{others, Crossed, recounted}
 use Rattle.decomposition.specs.Splitting.{first-counts, is-crossed, with-k13, counts, split-of}
 use Rattle.decomposition.proofs.Sides.{SameSides, made}
 use Rattle.decomposition.proofs.Choice.{counts-made}
@@ -71,21 +71,7 @@ record Alone (k : Counts) : Type 0 where
 
 -- the sides that all but the diagonal rows make
 abbrev wide : Counts → Outline
-wide k = made (record {
-  k1 = k .k1;
-  k2 = 0;
-  k3 = k .k3;
-  k4 = 0;
-  k5 = k .k5;
-  k6 = k .k6;
-  k7 = k .k7;
-  k8 = k .k8;
-  k9 = k .k9;
-  k10 = k .k10;
-  k11 = k .k11;
-  k12 = k .k12;
-  k13 = k .k13;
-})
+wide k = made (recounted k 0 0 (k .k13))
 
 each-wide : (k : Counts) (s : Start) → SameSides (plus-each (broad-counts k) broads (cell-at s)) (wide k)
 unfolding broads piece-of piece-sides outlines pieces
@@ -155,16 +141,16 @@ module _ (k : Counts) (s : Start) where
 
 -- ---- the counts that are computed
 
-joined-whole : (k : Counts) → ¬ (Alone (with-k13 k))
+with-k13-whole : (k : Counts) → ¬ (Alone (with-k13 k))
 unfolding with-k13
-joined-whole k = cases (is-crossed k) (λ t. rw t (λ a. omega arith)) (λ f. rw f (λ a. true-is-not-false (sym (crossed-test k (crossed a)) ∙ f)))
+with-k13-whole k = cases (is-crossed k) (λ t. rw t (λ a. omega arith)) (λ f. rw f (λ a. true-is-not-false (sym (crossed-test k (crossed a)) ∙ f)))
   where
     crossed : Alone k → Crossed k
     crossed a = omega arith
 
 counts-whole : (o : Outline) → ¬ (Alone (counts o))
 unfolding counts
-counts-whole o = joined-whole (first-counts o)
+counts-whole o = with-k13-whole (first-counts o)
 
 between : (o p q : Outline) → SameSides p o → SameSides q p → SameSides o q
 between o p q e f = omega arith

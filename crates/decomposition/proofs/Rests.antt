@@ -9,7 +9,7 @@ use Rattle.outline.specs.Closing.{Closes}
 use Rattle.decomposition.specs.declared.Counts.{Counts}
 use Rattle.decomposition.specs.declared.counting.Triangles.{Triangles}
 use Rattle.decomposition.specs.Rule.{count-of-kind, Pair, case-i, case-ii, case-iii, case-iv, case-v, case-vi, case-vii, case-viii, triangles, TwoKinds}
-use Rattle.decomposition.specs.Splitting.{rest, triangles-of}
+use Rattle.decomposition.specs.Splitting.{rows-and-triangles, rest, triangles-of}
 use Rattle.decomposition.proofs.Sides.{SameSides, made}
 
 -- ---- rows and what they leave
@@ -55,23 +55,9 @@ rest-closes o r k l c = omega arith
 
 -- the rows of m, and triangles
 abbrev pub with : Counts → Triangles → Counts
-with m t = record {
-  k1 = m .k1;
-  k2 = m .k2;
-  k3 = m .k3;
-  k4 = m .k4;
-  k5 = t .k5;
-  k6 = t .k6;
-  k7 = t .k7;
-  k8 = t .k8;
-  k9 = t .k9;
-  k10 = t .k10;
-  k11 = t .k11;
-  k12 = t .k12;
-  k13 = 0;
-}
+with m t = rows-and-triangles (m .k1) (m .k2) (m .k3) (m .k4) t
 
-abbrev only : ℕ → ℕ → ℕ → ℕ → ℕ → ℕ → ℕ → ℕ → Triangles
+abbrev pub only : ℕ → ℕ → ℕ → ℕ → ℕ → ℕ → ℕ → ℕ → Triangles
 only a b c d e f g h = record { k5 = a; k6 = b; k7 = c; k8 = d; k9 = e; k10 = f; k11 = g; k12 = h }
 
 -- triangles of two kinds that, with the rows of m, have the sides of o

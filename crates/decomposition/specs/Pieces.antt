@@ -1,14 +1,13 @@
 -- The thirteen pieces as outlines, and the set of cells that counted pieces make. This file, with the table of pieces in outline's
 -- specs/Tables.antt, is what a reader must believe of pieces. Assumes nothing.
-use mathlib.Core.Path.{_≡_}
 use mathlib.Core.List.{List, [], _∷_, map}
 use Prim.Native.Nat.{ℕ}
 use lib.IntN.{pos}
-use lib.ListN.{getD}
 use Rattle.octagon.specs.Cells.{Cells}
 use Rattle.outline.specs.declared.Outline.{Outline}
 use Rattle.outline.specs.Tables.{pieces, piece-sides}
-use Rattle.outline.specs.Walk.{InsideWalk}
+use Rattle.outline.specs.Walk.{with-sides, InsideWalk}
+use Rattle.outline.specs.Meaning.{OneCell}
 use Rattle.morphology.specs.Sets.{DilatedTimes}
 use Rattle.decomposition.specs.declared.Start.{Start}
 use Rattle.decomposition.specs.declared.Counts.{Counts}
@@ -18,18 +17,7 @@ use Rattle.decomposition.specs.declared.Split.{Split}
 
 -- eight side lengths as an outline: each piece starts at (0, 0)
 abbrev pub from-origin : List ℕ → Outline
-from-origin n = record {
-  i = pos 0;
-  j = pos 0;
-  n0 = getD n 0 0;
-  n1 = getD n 1 0;
-  n2 = getD n 2 0;
-  n3 = getD n 3 0;
-  n4 = getD n 4 0;
-  n5 = getD n 5 0;
-  n6 = getD n 6 0;
-  n7 = getD n 7 0;
-}
+from-origin n = with-sides (pos 0) (pos 0) n
 
 -- the rows of the table as outlines
 unfoldable pub outlines : List Outline
@@ -48,7 +36,7 @@ listed k =
 
 -- the start cell alone
 abbrev pub Only : Start → Cells
-Only s x y = (x ≡ s .i) × (y ≡ s .j)
+Only s = OneCell (s .i) (s .j)
 
 -- a set dilated by each piece as often as it is counted, one kind after the other; a piece's cells are those inside its outline
 abbrev pub DilatedByEach : List ℕ → List Outline → Cells → Cells

@@ -66,13 +66,13 @@ pub record Crossed (k : Counts) : Type 0 where
   pub some-k4 : 1 ≤ k .k4
   pub no-others : others k ≡ 0
 
--- one K2 and one K4 as one K13
-abbrev pub exchanged : Counts → Counts
-exchanged k = record {
+-- the counts with so many of K2, of K4 and of K13 in place of theirs
+abbrev pub recounted : Counts → ℕ → ℕ → ℕ → Counts
+recounted k k2 k4 k13 = record {
   k1 = k .k1;
-  k2 = k .k2 - 1;
+  k2 = k2;
   k3 = k .k3;
-  k4 = k .k4 - 1;
+  k4 = k4;
   k5 = k .k5;
   k6 = k .k6;
   k7 = k .k7;
@@ -81,8 +81,12 @@ exchanged k = record {
   k10 = k .k10;
   k11 = k .k11;
   k12 = k .k12;
-  k13 = 1;
+  k13 = k13;
 }
+
+-- one K2 and one K4 as one K13
+abbrev pub exchanged : Counts → Counts
+exchanged k = recounted k (k .k2 - 1) (k .k4 - 1) 1
 
 pub data Last (before after : Counts) : Type 0 where
   exchange : Crossed before → after ≡ exchanged before → Last before after

@@ -1,7 +1,7 @@
 // The decomposition of an octagon into thirteen pieces (document 01's split), in constant time.
 //
-// specs/Pieces.antt has the pieces and the set that counted pieces make, specs/Rule.antt document 01's rule for the counts,
-// specs/Splitting.antt what `decompose` answers, proofs/Decompositions.antt the theorems between them.
+// `outline::tables` has the table of the pieces, specs/Pieces.antt the set that counted pieces make, specs/Rule.antt document 01's rule
+// for the counts, specs/Splitting.antt what `decompose` answers, specs/Meaning.antt what that means, proofs/Decompositions.antt the theorems.
 ghost use mathlib.Core.Path.{_≡_};
 ghost use Rattle.decomposition.specs.Pieces as pieces;
 ghost use Rattle.decomposition.specs.Splitting as splitting;
@@ -66,7 +66,7 @@ fn from_origin(n: [u32; 8]) -> Outline
     }
 }
 
-// The piece in row k of the table as an outline, counted from 0; the one cell (0, 0) past its end.
+// Document 01's pieces, K1 in row 0 to K13 in row 12 of the table: row k as an outline from (0, 0), and the one cell (0, 0) past its end.
 pub fn piece(k: usize) -> Outline
     ensures { λ r. ⌜ r ≡ pieces.piece-of k ⌝ }
 {

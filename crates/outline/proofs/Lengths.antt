@@ -16,9 +16,7 @@ use Rattle.octagon.specs.Cells.{limit}
 use Rattle.octagon.specs.NormalForm.{sides, even-side, odd-side, normalised}
 use Rattle.octagon.specs.Outcome.{accepted}
 use Rattle.octagon.proofs.Within.{Normal, Near}
-use Rattle.octagon.proofs.Vertices.{reached-normal}
-use Rattle.octagon.proofs.Map.{cells-near}
-use Rattle.octagon.proofs.NormalForms.{accepted-means}
+use Rattle.octagon.proofs.NormalForms.{accepted-normal, accepted-near}
 use Rattle.octagon.proofs.Sides.{normal-sides, even-is, odd-is}
 use Rattle.outline.specs.Outlining.{SideLength, Sized}
 
@@ -64,7 +62,4 @@ normal-sized a n m =
 
 -- an accepted answer of `normalise` is such
 pub accepted-sized : (c a : Octagon) → normalised c ≡ accepted a → Sized a
-accepted-sized c a q =
-    let t = accepted-means c a q in
-    let n = reached-normal a (t .is-normalised .reached) in
-    normal-sized a n (cells-near a n (t .on-the-map))
+accepted-sized c a q = normal-sized a (accepted-normal c a q) (accepted-near c a q)

@@ -14,7 +14,7 @@ use Rattle.outline.specs.Walk.{vertex}
 abbrev pub not-closed : ℕ
 not-closed = 3
 
--- the bounds that four corners reach: bounds k-1 and k meet in corner k
+-- the bounds that four vertices reach: bounds k-1 and k meet in vertex k
 unfoldable pub bounds-at : Cell → Cell → Cell → Cell → Octagon
 bounds-at v1 v3 v5 v7 = record {
   c0 = negℤ (v1 .y);

@@ -1,7 +1,8 @@
 // Outlines, the field's boundary code (B-code), to octagons and back, and the vertices of an octagon in metres.
 //
-// specs/Walk.antt has the walk round an outline and the cells inside it; specs/Tracing.antt, Outlining.antt and Places.antt what the three
-// calls answer; proofs/Tracings.antt, Corners.antt, RoundTrips.antt and Metres.antt the theorems between them.
+// tables.rt and specs/Tables.antt have the step vectors and the pieces. specs/Walk.antt has the walk round an outline and the cells inside
+// it; specs/Tracing.antt, Outlining.antt and Places.antt what the three calls answer, specs/Meaning.antt what that means;
+// proofs/Tracings.antt, OneCell.antt, Vertices.antt, RoundTrips.antt and Metres.antt the theorems between them.
 ghost use mathlib.Core.Path.{_≡_};
 ghost use Rattle.octagon.specs.Answers.{outcome as «octagon-outcome»};
 ghost use Rattle.outline.specs.Tracing.{traced};
@@ -12,8 +13,8 @@ use octagon::Octagon;
 use place::Place;
 
 mod closing;
-mod corner;
 mod drawing;
+mod locating;
 pub mod place;
 mod sides;
 pub mod tables;
@@ -75,7 +76,7 @@ pub fn vertex_place(o: Octagon, k: u32) -> Located
     ensures { λ r. ⌜ «place-outcome» r ≡ located o k ⌝ }
 {
     match to_outline(o) {
-        Outlined::Outline(t) => corner::corner_place(t, k),
+        Outlined::Outline(t) => locating::place_of_vertex(t, k),
         Outlined::Refused(n) => Located::Refused(n),
     }
 }

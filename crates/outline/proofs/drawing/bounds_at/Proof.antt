@@ -1,4 +1,4 @@
--- `bounds_at` meets its contract: each bound fits 32 bits, so its sums and its cast keep it. Assumes nothing.
+-- `bounds_at` meets its contract: each bound fits 32 bits, so its sum and its cast keep it. Assumes nothing.
 use mathlib.Core.Path.{_≡_, refl, _∙_}
 use lib.IntN.{ℤ, pos, _+ℤ_, +ℤ-idl}
 use mir.Syntax.{w32, w64}

@@ -13,7 +13,7 @@ use Rattle.outline.specs.declared.Outline.{Outline}
 use Rattle.outline.specs.declared.walk.Cell.{Cell}
 use Rattle.outline.specs.Walk.{vertex}
 use Rattle.outline.specs.Tracing.{bounds-at, drawn}
-use Rattle.outline.proofs.Range.{Held, Roomy, corner-room}
+use Rattle.outline.proofs.Range.{Held, Roomy, vertex-room}
 use Rattle.outline.proofs.drawing.draw.Statement.{statement}
 use Rattle.outline.proofs.drawing.draw.Tie as tie
 
@@ -48,18 +48,31 @@ same-test a b c d p q r s =
 held : (c : tie.Start) → Held (c .args .o)
 held c = search needs
 
+-- from each vertex back to the start
+abbrev start1 : tie.After-vertex → tie.Start
+start1 c = c .before
+
+abbrev start3 : tie.After-vertex2 → tie.Start
+start3 c = start1 (c .before)
+
+abbrev start5 : tie.After-vertex3 → tie.Start
+start5 c = start3 (c .before)
+
+abbrev start7 : tie.After-vertex4 → tie.Start
+start7 c = start5 (c .before)
+
 -- the vertices that were walked to
 room1 : (c : tie.After-vertex) → Roomy (c .vertex .result)
-room1 c = rw (c .vertex .ensures) (corner-room _ (held (c .before)) 1 (omega arith))
+room1 c = rw (c .vertex .ensures) (vertex-room _ (held (start1 c)) 1 (omega arith))
 
 room3 : (c : tie.After-vertex2) → Roomy (c .vertex2 .result)
-room3 c = rw (c .vertex2 .ensures) (corner-room _ (held (c .before .before)) 3 (omega arith))
+room3 c = rw (c .vertex2 .ensures) (vertex-room _ (held (start3 c)) 3 (omega arith))
 
 room5 : (c : tie.After-vertex3) → Roomy (c .vertex3 .result)
-room5 c = rw (c .vertex3 .ensures) (corner-room _ (held (c .before .before .before)) 5 (omega arith))
+room5 c = rw (c .vertex3 .ensures) (vertex-room _ (held (start5 c)) 5 (omega arith))
 
 room7 : (c : tie.After-vertex4) → Roomy (c .vertex4 .result)
-room7 c = rw (c .vertex4 .ensures) (corner-room _ (held (c .before .before .before .before)) 7 (omega arith))
+room7 c = rw (c .vertex4 .ensures) (vertex-room _ (held (start7 c)) 7 (omega arith))
 
 -- from a field that was read, and from the test, back to the last of them
 abbrev at-read : tie.After-struct-told → tie.After-vertex4
@@ -71,21 +84,18 @@ at-read2 c = at-read (c .before .before)
 abbrev at-test : tie.After-on-map → tie.After-vertex4
 at-test c = at-read2 (c .before .before .before)
 
-abbrev start : tie.After-vertex4 → tie.Start
-start c = c .before .before .before .before
-
 -- their bounds are those of the outline
 are-drawn : (c : tie.After-vertex4) →
     bounds-at (c .before .before .before .vertex .result) (c .before .before .vertex2 .result) (c .before .vertex3 .result) (c .vertex4 .result)
-    ≡ drawn (start c .args .o)
+    ≡ drawn (start7 c .args .o)
 are-drawn c =
     let at5 = c .before in
     let at3 = at5 .before in
     let at1 = at3 .before in
-    same-drawn (start c .args .o) (at1 .vertex .ensures) (at3 .vertex2 .ensures) (at5 .vertex3 .ensures) (c .vertex4 .ensures)
+    same-drawn (start7 c .args .o) (at1 .vertex .ensures) (at3 .vertex2 .ensures) (at5 .vertex3 .ensures) (c .vertex4 .ensures)
 
 -- and the test is made on the even ones
-tested : (c : tie.After-on-map) → c .on-map .result ≡ is-on-map (drawn (start (at-test c) .args .o))
+tested : (c : tie.After-on-map) → c .on-map .result ≡ is-on-map (drawn (start7 (at-test c) .args .o))
 tested c =
     let at7 = at-test c in
     let at5 = at7 .before in
@@ -96,7 +106,7 @@ tested c =
 bounds-at-requires : tie.Need-bounds-at-requires
 bounds-at-requires c κs =
     let v = at-test (c .before) in
-    rw (are-drawn v) (start v .pre (told (c .if1 .taken) (tested (c .before))))
+    rw (are-drawn v) (start7 v .pre (told (c .if1 .taken) (tested (c .before))))
 
 returns : tie.Need-returns
 unfolding placed

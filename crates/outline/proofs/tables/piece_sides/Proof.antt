@@ -1,4 +1,5 @@
--- `piece_sides` meets its contract: the constant `PIECES` is the definition `pieces`, row for row. Assumes nothing.
+-- `piece_sides` meets its contract: the constant `PIECES` is the definition `pieces`, row for row,
+-- and there is nothing past its end. Assumes nothing.
 use mathlib.Core.Path.{_≡_, refl, sym}
 use mathlib.Core.List.{List, [], _∷_}
 use Prim.Native.Nat.{ℕ, zero, suc, _<_}

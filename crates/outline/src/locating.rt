@@ -1,4 +1,4 @@
-// The place of a corner of an outline.
+// The place of a vertex of an outline.
 ghost use mathlib.Core.Path.{_≡_};
 ghost use Prim.Native.Nat.{ℕ, _<_};
 ghost use Rattle.outline.specs.Walk as walk;
@@ -9,10 +9,10 @@ use crate::Outline;
 use crate::place::place_of;
 use crate::walk::vertex;
 
-// Corner k in metres, where the corners fit 32 bits. Refuses a number above 7.
-pub fn corner_place(o: Outline, k: u32) -> Located
+// Vertex k (document 01's corner k) in metres, where the vertices fit 32 bits. Refuses a number above 7.
+pub fn place_of_vertex(o: Outline, k: u32) -> Located
     requires { ⌜ ((n : ℕ) → n < 8 → places.HeldCell (walk.vertex o n)) ⌝ }
-    ensures { λ r. ⌜ places.outcome r ≡ places.corner-place o k ⌝ }
+    ensures { λ r. ⌜ places.outcome r ≡ places.place-of-vertex o k ⌝ }
 {
     if k > 7 {
         return Located::Refused(NO_VERTEX);

@@ -1,38 +1,25 @@
--- The corners of an accepted outline, in the words of document 01: where they lie, and which the start is. Assumes nothing.
+-- The vertices of an accepted outline, in the words of document 01: where they lie, which the start
+-- is, and when the walk comes back to it. Assumes nothing.
 use mathlib.Core.Path.{_≡_, ap}
-use mathlib.Core.List.{[], _∷_}
 use mathlib.Core.Logic.{_↔_}
 use Prim.Native.Nat.{ℕ, _+_, _%_, _<_}
 use native.Mathlib.Omega.{arith}
-use lib.IntN.{ℤ, pos, negℤ, _+ℤ_, _-ℤ_}
-use lib.ListN.{getD}
-use lib.Signed.{_≤ℤ_}
+use lib.IntN.{ℤ, negℤ}
 use Rattle.integers.proofs.Parts.{sum-parts, diff-parts, neg-up, neg-dn, eq-parts, parts-eq, parts-le}
 use Rattle.integers.proofs.Linear.{#, _⊕_, neg, _≈_, same}
 use Rattle.octagon.specs.declared.Octagon.{Octagon}
 use Rattle.octagon.specs.Outcome.{accepted}
-use Rattle.octagon.specs.Cells.{Cells, In}
+use Rattle.octagon.specs.Cells.{In}
 use Rattle.octagon.proofs.Within.{Within, within, cell-in}
 use Rattle.outline.specs.declared.Outline.{Outline}
 use Rattle.outline.specs.declared.walk.Cell.{Cell}
 use Rattle.outline.specs.Closing.{Closes}
 use Rattle.outline.specs.Walk.{vertex}
 use Rattle.outline.specs.Tracing.{drawn, traced}
+use Rattle.outline.specs.Meaning.{PastStart, Reaches, IsVertex}
 use Rattle.outline.proofs.Steps.{eight}
 use Rattle.outline.proofs.Tracings.{accepted-drawn, accepted-means}
 use Rattle.outline.proofs.Drawn.{walked, reached}
-
--- the cell (x, y) reaches bound k
-abbrev pub Reaches : Octagon → ℕ → Cells
-Reaches a k x y =
-    getD (negℤ y ∷ (x -ℤ y) ∷ x ∷ (x +ℤ y) ∷ y ∷ (negℤ x +ℤ y) ∷ negℤ x ∷ (negℤ x -ℤ y) ∷ []) k (pos 0)
-    ≡ getD (a .c0 ∷ a .c1 ∷ a .c2 ∷ a .c3 ∷ a .c4 ∷ a .c5 ∷ a .c6 ∷ a .c7 ∷ []) k (pos 0)
-
--- a corner is a cell of the octagon where the bounds k-1 and k meet, with indices counted round the eight
-pub record Corner (a : Octagon) (k : ℕ) (v : Cell) : Type 0 where
-  pub inside : In a (v .x) (v .y)
-  pub before : Reaches a ((k + 7) % 8) (v .x) (v .y)
-  pub own : Reaches a k (v .x) (v .y)
 
 -- ---- one bound
 
@@ -61,7 +48,7 @@ module _ (a : Octagon) (v : Cell) where
   on7 : # (a .c7) ≈ neg (# (v .x)) ⊕ neg (# (v .y)) → Reaches a 7 (v .x) (v .y)
   on7 h = same (neg (# (v .x)) ⊕ neg (# (v .y))) (omega (arith, diff-parts (negℤ (v .x)) (v .y), neg-up (v .x), neg-dn (v .x))) h
 
--- ---- each corner of an outline that closes
+-- ---- each vertex of an outline that closes
 
 module _ (o : Outline) (k : Closes o) where
   abbrev a : Octagon
@@ -102,25 +89,21 @@ module _ (o : Outline) (k : Closes o) where
       (on6 a (vertex o 6) (omega arith))
       (on7 a (vertex o 7) (omega arith))
 
-  pub corner : (n : ℕ) → n < 8 → Corner a n (vertex o n)
-  corner n h = record { inside = cell-in (cell n h); before = before n h; own = own n h }
+  is-vertex : (n : ℕ) → n < 8 → IsVertex a n (vertex o n)
+  is-vertex n h = record { inside = cell-in (cell n h); before = before n h; own = own n h }
 
 -- "corner k+1 is corner k moved nk steps along dk": each is a cell of the octagon, where two bounds meet
-pub corners : (o : Outline) (a : Octagon) → traced o ≡ accepted a → (k : ℕ) → k < 8 → Corner a k (vertex o k)
-corners o a q = rw (accepted-drawn o a q) (corner o (accepted-means o a q .closed))
+pub vertices : (o : Outline) (a : Octagon) → traced o ≡ accepted a → (k : ℕ) → k < 8 → IsVertex a k (vertex o k)
+vertices o a q = rw (accepted-drawn o a q) (is-vertex o (accepted-means o a q .closed))
 
 -- "the start is the lowest corner, and of the lowest the leftmost": no cell is lower, and none as low is further left
-pub record Start (o : Outline) (x y : ℤ) : Type 0 where
-  pub lowest : o .j ≤ℤ y
-  pub leftmost : y ≡ o .j → o .i ≤ℤ x
-
-start-of : (o : Outline) → Closes o → (x y : ℤ) → Within (drawn o) x y → Start o x y
+start-of : (o : Outline) → Closes o → (x y : ℤ) → Within (drawn o) x y → PastStart o x y
 start-of o k x y i =
     let w = walked o in
     let r = reached o in
     record { lowest = parts-le (o .j) y (omega arith); leftmost = λ e. parts-le (o .i) x (omega (arith, eq-parts e)) }
 
-pub start : (o : Outline) (a : Octagon) → traced o ≡ accepted a → (x y : ℤ) → In a x y → Start o x y
+pub start : (o : Outline) (a : Octagon) → traced o ≡ accepted a → (x y : ℤ) → In a x y → PastStart o x y
 start o a q x y i = start-of o (accepted-means o a q .closed) x y (within (rw (accepted-drawn o a q) at i))
 
 -- "it closes": exactly where the walk comes back to its start
