@@ -33,7 +33,7 @@ stated len z = cond (has-bad-marks z) (refused bad-trailer) (cond (is-bad-distan
 unfoldable pub framed : List ℕ → ℕ → Outcome ℕ
 framed s len = cond (is-bad-length s len) (refused bad-length) (stated len (trailer-at s (len - trailer-length)))
 
--- what is known of a sheet of len bytes with c records, where that is accepted
+-- the first len bytes of s are as many as a sheet may have, and have room for c records and a trailer
 pub record HoldsRecords (s : List ℕ) (len c : ℕ) : Type 0 where
   pub within : len ≤ length s
   pub short : len ≤ sheet-limit
