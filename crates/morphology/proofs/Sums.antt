@@ -1,4 +1,4 @@
--- The cells within the sums of two octagons' normal bounds are the sums of their cells, but for opposed diagonal rows.
+-- Sums of two octagons' bounds, which tell the addends; and of normal bounds, whose cells are the sums of cells but for opposed rows.
 -- Assumes nothing.
 use mathlib.Core.Path.{_≡_}
 use native.Mathlib.Omega.{arith}

@@ -1,5 +1,5 @@
--- Opposed diagonal rows among octagons whose bounds may be slack: judged on their cells. All others have sums of bounds for their
--- dilation, and these have no octagon. Assumes nothing.
+-- Pairings of any octagons, however slack their bounds: opposed diagonal rows, whose dilation is no octagon, and all others, whose
+-- dilation is the octagon of the sums. Assumes nothing.
 use mathlib.Core.Path.{_≡_}
 use mathlib.Core.Logic.{_↔_, inl, inr}
 use mathlib.Core.Bool.{true}
