@@ -21,7 +21,7 @@ use Rattle.morphology.proofs.Multiples.{multiples-normal, multiples-dil
 use Rattle.morphology.proofs.SetLaws.{same-trans, dilated-times-same}
 use Rattle.morphology.proofs.Checks.{by-test, passing, later, after-operands, retold, on-both, represented, placing, check-one, operands-one, stands-one, exactly}
 use Rattle.morphology.proofs.Operands.{Form, Accepted, on-operands}
-use Rattle.morphology.proofs.OpposedOperands.{rows-test}
+use Rattle.morphology.proofs.Pairings.{rows-test}
 use Rattle.morphology.proofs.FewFolds.{dilation-one}
 
 -- the call on the normal forms a and b of its operands

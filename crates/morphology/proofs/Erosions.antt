@@ -15,7 +15,7 @@ use Rattle.morphology.specs.Cases.{Eroding, ErodingTimes}
 use Rattle.morphology.proofs.Multiples.{multiples-erode}
 use Rattle.morphology.proofs.SetLaws.{same-trans, eroded-times-same}
 use Rattle.morphology.proofs.Checks.{by-test, passing, skip, later, failed, after-operands, skip-operands, represented, not-refused, check-one, operands-one, stands-one, exactly}
-use Rattle.morphology.proofs.Operands.{on-operands, leaving}
+use Rattle.morphology.proofs.Operands.{on-operands, fitted}
 use Rattle.morphology.proofs.FewFolds.{erosion-one}
 
 -- one of the cases holds of any operands and any n
@@ -24,7 +24,7 @@ unfolding erosion-n
 eroding-times p f n =
     by-test (ltb fold-limit n) _ (ltb-true fold-limit n, lt-ltb fold-limit n) λ _.
     on-operands p f _ λ a b h k.
-    leaving (differences a (multiples n b)) (same-trans (multiples-erode n a b (k .form .normal)) (eroded-times-same n (h .form .cells) (k .form .cells)))
+    fitted (differences a (multiples n b)) (same-trans (multiples-erode n a b (k .form .normal)) (eroded-times-same n (h .form .cells) (k .form .cells)))
 
 -- and each answer is given exactly where its case holds
 pub erosion-n-exactly : (p f : Octagon) (n : ℕ) (o : Outcome Octagon) → (erosion-n p f n ≡ o) ↔ ErodingTimes p f n o

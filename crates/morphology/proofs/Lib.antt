@@ -8,7 +8,7 @@ pub mod DiagonalRows
 pub mod Holes
 pub mod Checks
 pub mod Operands
-pub mod OpposedOperands
+pub mod Pairings
 pub mod FewFolds
 pub mod Dilations
 pub mod Erosions
@@ -18,3 +18,4 @@ pub mod Decided
 pub mod Laws
 pub mod Calls
 pub mod Widths
+pub mod ReadBack

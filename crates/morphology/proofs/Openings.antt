@@ -10,7 +10,7 @@ use Rattle.morphology.specs.Operations.{opposed-rows, dilation, erosion,
 use Rattle.morphology.specs.Cases.{Check, Stands, stands, Opening}
 use Rattle.morphology.proofs.SetLaws.{same-refl, same-sym, dilated-same, leaves-same, adjunction}
 use Rattle.morphology.proofs.Checks.{passing, later, after-operands, onward, onward-operands, retold, represented, not-empty, stays, same-set, check-one, operands-one, stands-one, exactly, itself}
-use Rattle.morphology.proofs.OpposedOperands.{opposed-same}
+use Rattle.morphology.proofs.Pairings.{opposed-same}
 use Rattle.morphology.proofs.Dilations.{dilating}
 use Rattle.morphology.proofs.Erosions.{eroding}
 

@@ -10,7 +10,7 @@ use Rattle.octagon.proofs.Within.{Normal, Near}
 use Rattle.octagon.proofs.Normalising.{Normalising, is-normal, is-empty, is-off, normalising, form-cells}
 use Rattle.octagon.proofs.NormalForms.{accepted-means, accepted-normal, accepted-near}
 use Rattle.morphology.specs.Operations.{with-both, fitting}
-use Rattle.morphology.specs.Cases.{Answers, Check, fails, passes, stands, OnOperand, OnOperands, Leaving}
+use Rattle.morphology.specs.Cases.{Answers, Check, fails, passes, stands, OnOperand, OnOperands, Fitting}
 use Rattle.morphology.proofs.SetLaws.{same-refl, same-sym, same-empty, leaves-same}
 use Rattle.morphology.proofs.Checks.{not-empty, stays, represents-same}
 
@@ -68,5 +68,5 @@ pub on-operands : {C : Answers} (p f : Octagon) (g : Octagon → Octagon → Out
 on-operands p f g h = on-operand p (λ a. then (normalised f) (λ b. g a b)) (λ a i. on-operand f (λ b. g a b) (λ b j. h a b i j))
 
 -- the positions within differences of bounds
-pub leaving : {A : Cells} (d : Octagon) → In d ≐ A → Leaving A (fitting (normalised d))
-leaving d e = judged d fitting e refl refl λ a q. stands (represents-same e (accepted-means d a q))
+pub fitted : {A : Cells} (d : Octagon) → In d ≐ A → Fitting A (fitting (normalised d))
+fitted d e = judged d fitting e refl refl λ a q. stands (represents-same e (accepted-means d a q))

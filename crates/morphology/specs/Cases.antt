@@ -33,8 +33,8 @@ abbrev pub Placing : Cells → Answers
 Placing A = Check (LeavesMap A) off-map (Stands A)
 
 -- "5 when no such p exists. Then 2 when the result leaves the map"
-abbrev pub Leaving : Cells → Answers
-Leaving A = Check (Empty A) nothing-left (Placing A)
+abbrev pub Fitting : Cells → Answers
+Fitting A = Check (Empty A) nothing-left (Placing A)
 
 -- dilation (document 01's spread): "4 when the operands are opposed diagonal rows. Then 2 when the result leaves the map"
 abbrev pub Dilating : Octagon → Octagon → Answers
@@ -42,7 +42,7 @@ Dilating p f = OnOperands p f (Check (OpposedRows (In p) (In f)) opposed-rows (P
 
 -- erosion (document 01's trim)
 abbrev pub Eroding : Octagon → Octagon → Answers
-Eroding p f = OnOperands p f (Leaving (Eroded (In p) (In f)))
+Eroding p f = OnOperands p f (Fitting (Eroded (In p) (In f)))
 
 -- opening: the erosion's refusals, then 4 where what it left and f are opposed rows; the answer lies in p, so there is no second 2
 abbrev pub Opening : Octagon → Octagon → Answers
@@ -52,7 +52,7 @@ Opening p f =
     (Check (LeavesMap (Eroded (In p) (In f))) off-map
     (Check (OpposedRows (Eroded (In p) (In f)) (In f)) opposed-rows (Stands (Opened (In p) (In f))))))
 
--- closing: the dilation's refusals; what it gave holds f at each cell of p, and nowhere else, so the erosion refuses nothing
+-- closing: the dilation's refusals; f fits into what it gave at the cells of p and nowhere else, so the erosion refuses nothing
 abbrev pub Closing : Octagon → Octagon → Answers
 Closing p f =
     OnOperands p f
@@ -69,4 +69,4 @@ DilatingTimes p f n =
 
 -- n-fold erosion: "5, then 2, judged on the final set only"
 abbrev pub ErodingTimes : Octagon → Octagon → ℕ → Answers
-ErodingTimes p f n = OnFolds n (OnOperands p f (Leaving (ErodedTimes n (In p) (In f))))
+ErodingTimes p f n = OnFolds n (OnOperands p f (Fitting (ErodedTimes n (In p) (In f))))

@@ -1,9 +1,9 @@
 -- `dilate_n` meets its contract: refusals in document 01's order, else the sums with n times the element's bounds. Assumes nothing.
-use mathlib.Core.Path.{_≡_, _∙_, ap}
-use mathlib.Core.Bool.{Bool, _&&_}
-use Prim.Native.Nat.{ℕ, _≤_}
+use mathlib.Core.Path.{refl, _∙_, ap}
+use Prim.Native.Nat.{_≤_}
 use lib.Dec.{ltb}
 use borrow.Author.Needs.{needs}
+use Rattle.integers.proofs.Range.{told, and-is}
 use Rattle.octagon.specs.NormalForm.{placed}
 use Rattle.morphology.specs.Operations.{sums}
 use Rattle.morphology.specs.Folds.{fold-limit, dilation-n}
@@ -43,16 +43,12 @@ returns-3 : tie.Need-returns-3
 unfolding dilation-n
 returns-3 c = search (folds-taken, step-accepted, step-refused)
 
--- the test for opposed rows from the first fold on
-tested : (n : ℕ) {r x t : Bool} → (ltb 0 n && r) ≡ t → r ≡ x → (ltb 0 n && x) ≡ t
-tested n p q = rw (← q) p
-
 -- two accepted operands
 returns-4 : tie.Need-returns-4
 unfolding dilation-n
 returns-4 c =
     let t : tie.After-second = search in
-    folds-taken _ _ (few t) (both-accepted _ (operands t) (chosen _ (tested (at-start t .args .n) (c .if2 .taken) (c .before .are-opposed .ensures))))
+    folds-taken _ _ (few t) (both-accepted _ (operands t) (chosen _ (told (c .if2 .taken) (and-is {a = ltb 0 (at-start t .args .n)} refl (c .before .are-opposed .ensures)))))
 
 multiples-requires : tie.Need-multiples-requires
 multiples-requires c κs = let t : tie.After-second = search in multiples-held (operands t) _ (few t)
@@ -71,7 +67,7 @@ returns-5 c =
     let t : tie.After-second = search in
     folds-taken _ _ (few t)
     (both-accepted _ (operands t)
-    (not-chosen _ (tested (at-start t .args .n) (at-else .if2 .left) (at-else .before .are-opposed .ensures))
+    (not-chosen _ (told (at-else .if2 .left) (and-is {a = ltb 0 (at-start t .args .n)} refl (at-else .before .are-opposed .ensures)))
     (c .place .ensures ∙ ap placed (at-sums .sums .ensures ∙ ap (sums _) (at-multiples .multiples .ensures)))))
 
 pub dilate-n-spec : {M : Type 1} → statement M

@@ -1,14 +1,15 @@
--- Opposed diagonal rows among octagons whose bounds may be slack: judged on their cells. All others have sums of bounds for their
--- dilation, and these have no octagon. Assumes nothing.
+-- Pairings of any octagons, however slack their bounds: opposed diagonal rows, whose dilation is no octagon, and all others, whose
+-- dilation is the octagon of the sums. Assumes nothing.
 use mathlib.Core.Path.{_≡_}
 use mathlib.Core.Logic.{_↔_, inl, inr}
 use mathlib.Core.Bool.{true}
+use lib.IntN.{ℤ}
 use Rattle.integers.proofs.Tests.{cases}
 use Rattle.octagon.specs.declared.Octagon.{Octagon}
 use Rattle.octagon.specs.Cells.{Cells, _≐_, Some, In, Normalised}
 use Rattle.octagon.specs.NormalForm.{normal-form}
 use Rattle.octagon.proofs.Vertices.{normal-normalised}
-use Rattle.morphology.specs.Sets.{Dilated, Two, Rising, Falling, OpposedRows}
+use Rattle.morphology.specs.Sets.{Dilated, Two, DiagonalRow, OpposedRows}
 use Rattle.morphology.specs.Operations.{sums, are-opposed}
 use Rattle.morphology.proofs.Sums.{summed, summed-normal, sums-exact}
 use Rattle.morphology.proofs.DiagonalRows.{opposed-rows-test, not-opposed, not-opposed′}
@@ -20,15 +21,12 @@ two-same : {A B : Cells} → A ≐ B → Two A → Two B
 unfolding same-some
 two-same e t = record { one = same-some e (t .one); other = same-some e (t .other); apart = t .apart }
 
-rising-same : {A B : Cells} → A ≐ B → Rising A → Rising B
-rising-same e r = record { line = r .line; on-line = λ x y i. r .on-line x y (e x y .1 i); two = two-same e (r .two) }
-
-falling-same : {A B : Cells} → A ≐ B → Falling A → Falling B
-falling-same e r = record { line = r .line; on-line = λ x y i. r .on-line x y (e x y .1 i); two = two-same e (r .two) }
+row-same : {d : ℤ → ℤ → ℤ} {A B : Cells} → A ≐ B → DiagonalRow d A → DiagonalRow d B
+row-same e r = record { line = r .line; on-line = λ x y i. r .on-line x y (e x y .1 i); two = two-same e (r .two) }
 
 pub opposed-same : {A B C D : Cells} → A ≐ C → B ≐ D → OpposedRows A B → OpposedRows C D
-opposed-same e f (inl r) = inl (rising-same e (r .0), falling-same f (r .1))
-opposed-same e f (inr r) = inr (falling-same e (r .0), rising-same f (r .1))
+opposed-same e f (inl r) = inl (row-same e (r .0), row-same f (r .1))
+opposed-same e f (inr r) = inr (row-same e (r .0), row-same f (r .1))
 
 opposed-some : {A B : Cells} → OpposedRows A B → Some A × Some B
 opposed-some (inl r) = (r .0 .two .one, r .1 .two .one)
