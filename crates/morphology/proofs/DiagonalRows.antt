@@ -10,9 +10,9 @@ use Rattle.integers.proofs.Linear.{Diff, #, _⊕_, lit, _≼_, same}
 use Rattle.integers.proofs.Between.{decide}
 use Rattle.integers.proofs.Tests.{both-true, and-true, test-le, le-test, true-is-not-false}
 use Rattle.octagon.specs.declared.Octagon.{Octagon}
-use Rattle.octagon.specs.Cells.{In}
+use Rattle.octagon.specs.Cells.{In, Normalised}
 use Rattle.octagon.proofs.Within.{Within, Normal, within, cell-in}
-use Rattle.octagon.proofs.Vertices.{Vertex, vertex-12, vertex-34, vertex-56, vertex-70}
+use Rattle.octagon.proofs.Vertices.{Vertex, vertex-12, vertex-34, vertex-56, vertex-70, reached-normal}
 use Rattle.morphology.specs.Sets.{DiagonalRow, Rising, Falling, OpposedRows}
 use Rattle.morphology.specs.Operations.{is-row, is-rising, is-falling, are-opposed}
 use Rattle.morphology.proofs.Meet.{Opposed}
@@ -109,10 +109,16 @@ either-or a b (inr q) = rw q (true-right a)
     true-right false = refl
 
 -- the test is true exactly for rows of which one is of each kind
-pub opposed-rows-test : (a b : Octagon) → Normal a → Normal b → (are-opposed a b ≡ true) ↔ OpposedRows (In a) (In b)
+pub opposed-rows-test : (a b : Octagon) → Normalised a → Normalised b → (are-opposed a b ≡ true) ↔ OpposedRows (In a) (In b)
 unfolding are-opposed is-rising is-falling
-opposed-rows-test a b n k = (λ h. to (or-either _ _ h), λ r. either-or _ _ (from r))
+opposed-rows-test a b i j = (λ h. to (or-either _ _ h), λ r. either-or _ _ (from r))
   where
+    n : Normal a
+    n = reached-normal a (i .reached)
+
+    k : Normal b
+    k = reached-normal b (j .reached)
+
     to : ((is-rising a && is-falling b) ≡ true) ⊎ ((is-falling a && is-rising b) ≡ true) → OpposedRows (In a) (In b)
     to (inl h) =
         let p = both-true (is-rising a) (is-falling b) h in

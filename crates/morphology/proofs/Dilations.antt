@@ -46,8 +46,8 @@ unfolding dilation-n
 dilating-times p f n =
     by-test (ltb fold-limit n) _ (ltb-true fold-limit n, lt-ltb fold-limit n) λ _.
     on-operands p f _ λ a b h k.
-    by-test (are-opposed-in n a b) _ (opposed-test p f n a b (h .form) (k .form)) λ t.
-    placing (sums a (multiples n b)) (multiples-normal n a b (h .form .normal) (k .form .normal)) (exact p f n a b (h .form) (k .form) t)
+    by-test (are-opposed-in n a b) _ (opposed-test p f n a b h k) λ t.
+    placing (sums a (multiples n b)) (multiples-normal n a b (h .normal) (k .normal)) (exact p f n a b h k t)
 
 -- and each answer is given exactly where its case holds
 pub dilation-n-exactly : (p f : Octagon) (n : ℕ) (o : Outcome Octagon) → (dilation-n p f n ≡ o) ↔ DilatingTimes p f n o
@@ -87,10 +87,10 @@ accepted-sum p f d q =
       a = s .between;
       b = t .between;
       operands = record { of-p = s .first; of-f = t .first };
-      is-sums = chosen (are-opposed (s .between) (t .between)) (is-on-map e) _ _ e (t .second);
+      is-sums = told-sum (are-opposed (s .between) (t .between)) (is-on-map e) _ _ e (t .second);
     }
   where
-    chosen : (t u : Bool) (j k : ℕ) (e : Octagon) → cond t (refused k) (cond u (accepted e) (refused j)) ≡ accepted d → d ≡ e
-    chosen true u j k e q = absurd (accepted-not-refused (sym q))
-    chosen false true j k e q = sym (accepted-same q)
-    chosen false false j k e q = absurd (accepted-not-refused (sym q))
+    told-sum : (t u : Bool) (j k : ℕ) (e : Octagon) → cond t (refused k) (cond u (accepted e) (refused j)) ≡ accepted d → d ≡ e
+    told-sum true u j k e q = absurd (accepted-not-refused (sym q))
+    told-sum false true j k e q = sym (accepted-same q)
+    told-sum false false j k e q = absurd (accepted-not-refused (sym q))

@@ -24,7 +24,7 @@ unfolding erosion-n
 eroding-times p f n =
     by-test (ltb fold-limit n) _ (ltb-true fold-limit n, lt-ltb fold-limit n) λ _.
     on-operands p f _ λ a b h k.
-    fitted (differences a (multiples n b)) (same-trans (multiples-erode n a b (k .form .normal)) (eroded-times-same n (h .form .cells) (k .form .cells)))
+    fitted (differences a (multiples n b)) (same-trans (multiples-erode n a b (k .normal)) (eroded-times-same n (h .cells) (k .cells)))
 
 -- and each answer is given exactly where its case holds
 pub erosion-n-exactly : (p f : Octagon) (n : ℕ) (o : Outcome Octagon) → (erosion-n p f n ≡ o) ↔ ErodingTimes p f n o

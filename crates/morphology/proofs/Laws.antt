@@ -2,14 +2,13 @@
 -- The premises are that the operands hold a cell and that the calls which a law names are allowed (specs/Premises.antt); where a law
 -- says that a call is accepted, they are asked of the calls before it alone. Assumes nothing.
 use mathlib.Core.Path.{_≡_, refl, _∙_}
-use mathlib.Core.Logic.{_↔_, _⊎_, inl, inr}
+use mathlib.Core.Logic.{_⊎_, inl, inr}
 use Rattle.octagon.specs.declared.Octagon.{Octagon}
 use Rattle.octagon.specs.Outcome.{Outcome, accepted, refused, then}
 use Rattle.octagon.specs.Cells.{Cells, _⊆_, _≐_, Some, In}
-use Rattle.octagon.specs.NormalForm.{normalised}
 use Rattle.morphology.specs.Sets.{Dilated, Eroded}
 use Rattle.morphology.specs.Operations.{nothing-left, dilation, erosion, opened}
-use Rattle.morphology.specs.Premises.{Allowed, erosions, AllowedTwice, erosion-by-both, AllowedByBoth}
+use Rattle.morphology.specs.Premises.{Allowed, erosions, AllowedTwice, erosion-by-both, AllowedByBoth, LiesIn, Returned}
 use Rattle.morphology.specs.Cases.{fails, passes, stands}
 use Rattle.morphology.proofs.Checks.{own-form}
 use Rattle.morphology.proofs.Decided.{Decided, decided-same, decided-by, erosion-decided, dilation-allowed}
@@ -67,13 +66,6 @@ erosions-by-both′ p f g s t u a b =
 -- ---- what lies in a plot
 
 -- "An octagon spread by a frame lies in the plot exactly when the octagon lies in the trimmed plot; where nothing is left, none does."
-pub record LiesIn (x f p : Octagon) : Type 0 where
-  pub spread : Octagon
-  pub spread-accepted : dilation x f ≡ accepted spread
-  pub trimmed-or-nothing : ((e : Octagon) × (erosion p f ≡ accepted e)) ⊎ (erosion p f ≡ refused nothing-left)
-  pub exactly : (e : Octagon) → erosion p f ≡ accepted e → (In spread ⊆ In p) ↔ (In x ⊆ In e)
-  pub none : erosion p f ≡ refused nothing-left → ¬ (In spread ⊆ In p)
-
 pub lies-in : (x f p : Octagon) → Some (In x) → Some (In f) → Some (In p) → Allowed (dilation x f) → Allowed (erosion p f) → LiesIn x f p
 lies-in x f p s t u a b =
     let r = dilation-allowed x f s t a in
@@ -97,13 +89,6 @@ lies-in x f p s t u a b =
 -- ---- spreading and trimming by one frame
 
 -- "Spreading and then trimming by one frame is accepted and returns exactly the plot's cells": the plot's normal form
-pub record Returned (p f : Octagon) : Type 0 where
-  pub spread : Octagon
-  pub spread-accepted : dilation p f ≡ accepted spread
-  pub plot : Octagon
-  pub plot-normalised : normalised p ≡ accepted plot
-  pub returned : erosion spread f ≡ accepted plot
-
 pub returns-plot : (p f : Octagon) → Some (In p) → Some (In f) → Allowed (dilation p f) → Returned p f
 returns-plot p f s t a =
     let r = dilation-allowed p f s t a in

@@ -6,9 +6,9 @@ use Rattle.octagon.specs.declared.Octagon.{Octagon}
 use Rattle.octagon.specs.Outcome.{Outcome, accepted, refused, then, no-cell, off-map}
 use Rattle.octagon.specs.Cells.{Cells, _≐_, Empty, Some, In, LeavesMap}
 use Rattle.octagon.specs.NormalForm.{normal-form, normalised}
-use Rattle.octagon.proofs.Within.{Normal, Near}
+use Rattle.octagon.proofs.Within.{Normal}
 use Rattle.octagon.proofs.Normalising.{Normalising, is-normal, is-empty, is-off, normalising, form-cells}
-use Rattle.octagon.proofs.NormalForms.{accepted-means, accepted-normal, accepted-near}
+use Rattle.octagon.proofs.NormalForms.{accepted-means, accepted-normal}
 use Rattle.morphology.specs.Operations.{with-both, fitting}
 use Rattle.morphology.specs.Cases.{Answers, Check, fails, passes, stands, OnOperand, OnOperands, Fitting}
 use Rattle.morphology.proofs.SetLaws.{same-refl, same-sym, same-empty, leaves-same}
@@ -29,15 +29,6 @@ form-of p s = record { normal = go (normalising p); cells = form-cells p }
     go (is-normal a e n m h) = rw (← e) n
     go (is-empty h) = absurd (h (s .x) (s .y) (s .cell))
     go (is-off n h) = n
-
--- a is what an accepted operand p is normalised to
-pub record Operand (p a : Octagon) : Type 0 where
-  pub answer : normalised p ≡ accepted a
-  pub form : Form p a
-  pub near : Near a
-
-pub operand : (p a : Octagon) → normalised p ≡ accepted a → Operand p a
-operand p a q = record { answer = q; form = record { normal = accepted-normal p a q; cells = accepted-means p a q .cells }; near = accepted-near p a q }
 
 -- both operands of a call, accepted
 pub record Accepted (p f a b : Octagon) : Type 0 where
@@ -60,11 +51,11 @@ judged {A} {k} {C} d h e p q f = go (normalising d) refl
     go (is-off _ l) r = rw q (passes (λ n. n (l .x) (l .y) (e (l .x) (l .y) .0 (l .cell .0))) (fails (leaves-same e l)))
 
 -- a call on two operands, by what it answers on their normal forms
-on-operand : {C : Answers} (p : Octagon) (g : Octagon → Outcome Octagon) → ((a : Octagon) → Operand p a → C (g a)) → OnOperand p C (then (normalised p) g)
-on-operand p g f = judged p (λ o. then o g) (same-refl (In p)) refl refl (λ a q. f a (operand p a q))
+on-operand : {C : Answers} (p : Octagon) (g : Octagon → Outcome Octagon) → ((a : Octagon) → Form p a → C (g a)) → OnOperand p C (then (normalised p) g)
+on-operand p g f = judged p (λ o. then o g) (same-refl (In p)) refl refl (λ a q. f a (record { normal = accepted-normal p a q; cells = accepted-means p a q .cells }))
 
 pub on-operands : {C : Answers} (p f : Octagon) (g : Octagon → Octagon → Outcome Octagon) →
-    ((a b : Octagon) → Operand p a → Operand f b → C (g a b)) → OnOperands p f C (with-both p f g)
+    ((a b : Octagon) → Form p a → Form f b → C (g a b)) → OnOperands p f C (with-both p f g)
 on-operands p f g h = on-operand p (λ a. then (normalised f) (λ b. g a b)) (λ a i. on-operand f (λ b. g a b) (λ b j. h a b i j))
 
 -- the positions within differences of bounds

@@ -34,10 +34,9 @@ opposed-some (inr r) = (r .0 .two .one, r .1 .two .one)
 
 -- the test on normal forms is true exactly where the bounds that they were made of hold opposed rows
 pub rows-test : (p f a b : Octagon) → Form p a → Form f b → (are-opposed a b ≡ true) ↔ OpposedRows (In p) (In f)
-rows-test p f a b h k = (
-  λ t. opposed-same (h .cells) (k .cells) (opposed-rows-test a b (h .normal) (k .normal) .0 t),
-  λ r. opposed-rows-test a b (h .normal) (k .normal) .1 (opposed-same (same-sym (h .cells)) (same-sym (k .cells)) r),
-)
+rows-test p f a b h k =
+    let t = opposed-rows-test a b (normal-normalised a (h .normal)) (normal-normalised b (k .normal)) in
+    (λ e. opposed-same (h .cells) (k .cells) (t .0 e), λ r. t .1 (opposed-same (same-sym (h .cells)) (same-sym (k .cells)) r))
 
 -- ---- any octagons that hold a cell, on the map or off it
 
