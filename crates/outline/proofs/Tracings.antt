@@ -21,15 +21,11 @@ use Rattle.outline.proofs.Closed.{test-closes, closes-test}
 use Rattle.outline.proofs.Drawn.{closed-normal}
 use Rattle.outline.proofs.Inside.{inside-walk}
 
--- some cell inside the walk is off the map
-abbrev pub Leaves : Outline → Type 0
-Leaves o = LeavesMap (InsideWalk o)
-
 -- each answer, with what it says of the outline
 pub data Tracing (o : Outline) : Outcome Octagon → Type 0 where
   is-octagon : (a : Octagon) → a ≡ drawn o → Closes o → Normal a → Near a → Tracing o (accepted a)
   is-open : ¬ (Closes o) → Tracing o (refused not-closed)
-  is-off : Closes o → Leaves o → Tracing o (refused off-map)
+  is-off : Closes o → LeavesMap (InsideWalk o) → Tracing o (refused off-map)
 
 pub tracing : (o : Outline) → Tracing o (traced o)
 unfolding traced placed
@@ -40,7 +36,7 @@ tracing o =
     (λ m. rw (h, m) (is-off (test-closes o h) (leaves (far-cell (drawn o) (closed-normal o (test-closes o h)) m)))))
     (λ h. rw h (is-open (λ k. true-is-not-false (sym (closes-test o k) ∙ h))))
   where
-    leaves : LeavesMap (In (drawn o)) → Leaves o
+    leaves : LeavesMap (In (drawn o)) → LeavesMap (InsideWalk o)
     leaves f = record { x = f .x; y = f .y; cell = (inside-walk o (f .x) (f .y) .0 (f .cell .0), f .cell .1) }
 
 -- accepted: exactly the cells inside the walk, each bound reached, every cell on the map
@@ -86,15 +82,15 @@ refused-not-closed o = (to (tracing o), from (tracing o) refl)
     from (is-off k h) q f = absurd (f k)
 
 -- "2 as above": exactly where it closes and some cell lies off the map
-pub refused-off-map : (o : Outline) → (traced o ≡ refused off-map) ↔ (Closes o × Leaves o)
+pub refused-off-map : (o : Outline) → (traced o ≡ refused off-map) ↔ (Closes o × LeavesMap (InsideWalk o))
 refused-off-map o = (to (tracing o), from (tracing o) refl)
   where
-    to : {t : Outcome Octagon} → Tracing o t → t ≡ refused off-map → Closes o × Leaves o
+    to : {t : Outcome Octagon} → Tracing o t → t ≡ refused off-map → Closes o × LeavesMap (InsideWalk o)
     to (is-octagon b e k n m) q = absurd (accepted-not-refused q)
     to (is-open h) q = absurd (let z = refused-same q in omega arith)
     to (is-off k h) q = (k, h)
 
-    from : {t : Outcome Octagon} → Tracing o t → traced o ≡ t → Closes o × Leaves o → traced o ≡ refused off-map
+    from : {t : Outcome Octagon} → Tracing o t → traced o ≡ t → Closes o × LeavesMap (InsideWalk o) → traced o ≡ refused off-map
     from (is-octagon b e k n m) q f =
         let s = f .1 in
         absurd (s .cell .1 (near-cells b m (s .x) (s .y) (rw e (inside-walk o (s .x) (s .y) .1 (s .cell .0)))))
