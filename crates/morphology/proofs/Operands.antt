@@ -7,7 +7,7 @@ use Rattle.octagon.specs.Outcome.{Outcome, accepted, refused, then, no-cell, of
 use Rattle.octagon.specs.Cells.{Cells, _≐_, Empty, Some, In, LeavesMap}
 use Rattle.octagon.specs.NormalForm.{normal-form, normalised}
 use Rattle.octagon.proofs.Within.{Normal}
-use Rattle.octagon.proofs.Normalising.{Normalising, is-normal, is-empty, is-off, normalising, form-cells}
+use Rattle.octagon.proofs.Normalising.{some-normal, Normalising, is-normal, is-empty, is-off, normalising, form-cells}
 use Rattle.octagon.proofs.NormalForms.{accepted-means, accepted-normal}
 use Rattle.morphology.specs.Operations.{with-both, fitting}
 use Rattle.morphology.specs.Cases.{Answers, Check, fails, passes, stands, OnOperand, OnOperands, Fitting}
@@ -23,12 +23,7 @@ pub record Form (p a : Octagon) : Type 0 where
 
 -- whatever has a cell has such a form, on the map or off it
 pub form-of : (p : Octagon) → Some (In p) → Form p (normal-form p)
-form-of p s = record { normal = go (normalising p); cells = form-cells p }
-  where
-    go : {o : Outcome Octagon} → Normalising p o → Normal (normal-form p)
-    go (is-normal a e n m h) = rw (← e) n
-    go (is-empty h) = absurd (h (s .x) (s .y) (s .cell))
-    go (is-off n h) = n
+form-of p s = record { normal = some-normal p s; cells = form-cells p }
 
 -- both operands of a call, accepted
 pub record Accepted (p f a b : Octagon) : Type 0 where

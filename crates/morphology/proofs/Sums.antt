@@ -3,12 +3,12 @@
 use mathlib.Core.Path.{_≡_}
 use native.Mathlib.Omega.{arith}
 use lib.IntN.{ℤ, _+ℤ_, _-ℤ_}
-use Rattle.integers.proofs.Parts.{sum-parts, diff-parts, parts-eq}
+use Rattle.integers.proofs.Parts.{sum-parts, diff-parts}
 use Rattle.integers.proofs.Linear.{#, _⊕_, neg, _≈_, int, int-parts, same}
 use Rattle.octagon.specs.declared.Octagon.{Octagon}
 use Rattle.octagon.specs.Cells.{_≐_, In}
 use Rattle.octagon.proofs.Within.{Within, Normal, within, cell-in}
-use Rattle.octagon.proofs.Unique.{AtMost, equal}
+use Rattle.octagon.proofs.Unique.{both-ways}
 use Rattle.morphology.specs.Sets.{Dilated}
 use Rattle.morphology.specs.Operations.{sums}
 use Rattle.morphology.proofs.Meet.{Opposed, Common, common}
@@ -37,20 +37,7 @@ summed a b = record {
   s7 = sum-parts (a .c7) (b .c7);
 }
 
--- bounds that are at most each other are equal
-both-ways : (a b : Octagon) → AtMost a b → AtMost b a → a ≡ b
-both-ways a b h k =
-    equal
-    (parts-eq (a .c0) (b .c0) (omega (arith, h .m0, k .m0)))
-    (parts-eq (a .c1) (b .c1) (omega (arith, h .m1, k .m1)))
-    (parts-eq (a .c2) (b .c2) (omega (arith, h .m2, k .m2)))
-    (parts-eq (a .c3) (b .c3) (omega (arith, h .m3, k .m3)))
-    (parts-eq (a .c4) (b .c4) (omega (arith, h .m4, k .m4)))
-    (parts-eq (a .c5) (b .c5) (omega (arith, h .m5, k .m5)))
-    (parts-eq (a .c6) (b .c6) (omega (arith, h .m6, k .m6)))
-    (parts-eq (a .c7) (b .c7) (omega (arith, h .m7, k .m7)))
-
--- so the sums tell the bounds, and so do one addend and the sums
+-- the sums tell the bounds, and so do one addend and the sums
 pub summed-same : (a b s t : Octagon) → Summed a b s → Summed a b t → s ≡ t
 summed-same a b s t h k = both-ways s t (omega arith) (omega arith)
 
