@@ -1,4 +1,6 @@
 -- What the contracts of the exported functions cite.
 pub mod Calls
 pub mod Outlines
+pub mod Splits
 pub mod Sheets
+pub mod Listings

@@ -34,26 +34,30 @@ outline-in s n = record {
   n7 = getD n 7 0;
 }
 
--- the start and the sides of an outline, and both
-unfoldable pub start-of : Outline → List ℤ
-start-of o = o .i ∷ o .j ∷ []
+-- the slices of a start and of eight sides
+abbrev pub holds-outline : List ℤ → List ℕ → Bool
+holds-outline from sides = is-pair from && is-eight sides
+
+-- a start, the sides of an outline, and both
+unfoldable pub start : ℤ → ℤ → List ℤ
+start i j = i ∷ j ∷ []
 
 unfoldable pub sides-of : Outline → List ℕ
 sides-of o = o .n0 ∷ o .n1 ∷ o .n2 ∷ o .n3 ∷ o .n4 ∷ o .n5 ∷ o .n6 ∷ o .n7 ∷ []
 
 abbrev pub parts-of : Outline → List ℤ × List ℕ
-parts-of o = (start-of o, sides-of o)
+parts-of o = (start (o .i) (o .j), sides-of o)
 
 -- a place, east and north
 unfoldable pub metres-of : Place → List Float
 metres-of p = p .east ∷ p .north ∷ []
 
 -- the calls
-unfoldable pub tracing : List ℤ → List ℕ → List ℤ → Outcome Octagon
-tracing start sides out = fitted (is-pair start && is-eight sides && is-eight out) (traced (outline-in start sides))
+abbrev pub tracing : List ℤ → List ℕ → List ℤ → Outcome Octagon
+tracing from sides out = fitted (holds-outline from sides && is-eight out) (traced (outline-in from sides))
 
-unfoldable pub outlining : List ℤ → List ℤ → List ℕ → Outcome Outline
-outlining s start sides = fitted (is-eight s && is-pair start && is-eight sides) (outlined (octagon-in s))
+abbrev pub outlining : List ℤ → List ℤ → List ℕ → Outcome Outline
+outlining s from sides = fitted (is-eight s && holds-outline from sides) (outlined (octagon-in s))
 
-unfoldable pub locating : List ℤ → ℕ → List Float → Outcome Place
+abbrev pub locating : List ℤ → ℕ → List Float → Outcome Place
 locating s k place = fitted (is-eight s && is-pair place) (located (octagon-in s) k)
