@@ -1,4 +1,4 @@
-/* The calls of bindings/koxirmeta.h in plain C, by the same formulas: what the benchmark compares with. */
+/* Calls of bindings/koxirmeta.h in plain C: what the benchmark compares with. */
 #ifndef PLAIN_H
 #define PLAIN_H
 #include <stddef.h>

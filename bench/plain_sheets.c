@@ -1,5 +1,6 @@
-/* The calls on sheets of bindings/koxirmeta.h in plain C, by the same formulas. */
+/* The calls on sheets of bindings/koxirmeta.h in plain C: the check by the same formulas, the listing by sprintf. */
 #include "plain.h"
+#include <stdio.h>
 #include <string.h>
 
 static uint32_t u16_at(const uint8_t *s) { return (uint32_t)s[0] | (uint32_t)s[1] << 8; }
@@ -54,64 +55,30 @@ uint32_t plain_sheet_check(const uint8_t *sheet, size_t room, size_t len, uint32
     return 0;
 }
 
-static size_t put_word(uint8_t *text, size_t at, const char *word) {
-    while (*word)
-        text[at++] = (uint8_t)*word++;
-    return at;
-}
-
-static size_t put_decimal(uint8_t *text, size_t at, uint64_t n) {
-    if (n >= 10)
-        at = put_decimal(text, at, n / 10);
-    text[at] = (uint8_t)('0' + n % 10);
-    return at + 1;
-}
-
-static size_t put_number(uint8_t *text, size_t at, uint64_t n) {
-    text[at] = ' ';
-    return put_decimal(text, at + 1, n);
-}
-
-static size_t put_integer(uint8_t *text, size_t at, int32_t z) {
-    text[at++] = ' ';
-    if (z < 0)
-        text[at++] = '-';
-    return put_decimal(text, at, (uint64_t)(z < 0 ? -(int64_t)z : z));
-}
-
-/* The row of the plot in a record: the index past it, with the plot's cells to *cells. */
-static size_t put_row(uint8_t *text, size_t at, const uint8_t *r, uint32_t *cells) {
+/* The row of the plot in a record: its length, with the plot's cells to *cells. */
+static size_t put_row(char *text, const uint8_t *r, uint32_t *cells) {
     int32_t i = (int16_t)u16_at(r + 4), j = (int16_t)u16_at(r + 6), c[8];
     uint32_t n[8];
     for (int k = 0; k < 8; k++)
         n[k] = u16_at(r + 8 + 2 * k);
     draw(i, j, n, c);
     plain_cells(c, cells);
-    at = put_decimal(text, at, u32_at(r));
-    at = put_integer(text, at, i);
-    at = put_integer(text, at, j);
-    for (int k = 0; k < 8; k++)
-        at = put_number(text, at, n[k]);
-    at = put_number(text, at, *cells);
-    text[at] = '\n';
-    return at + 1;
+    return (size_t)sprintf(text, "%u %d %d %u %u %u %u %u %u %u %u %u\n", u32_at(r), i, j, n[0], n[1], n[2], n[3], n[4], n[5], n[6], n[7], *cells);
 }
 
 uint32_t plain_list(const uint8_t *sheet, size_t room, size_t len, uint8_t *text, size_t *written) {
     uint32_t count = 0, refused = plain_sheet_check(sheet, room, len, &count), cells = 0;
     uint64_t sum = 0;
-    size_t at = 0;
+    char *to = (char *)text;
     if (refused) {
-        at = put_number(text, put_word(text, at, "refused"), refused);
-    } else {
-        at = put_word(text, at, "plot i j n0 n1 n2 n3 n4 n5 n6 n7 cells\n");
-        for (const uint8_t *t = sheet + len - TRAILER, *r = t - RECORD * (size_t)count; r != t; r += RECORD) {
-            at = put_row(text, at, r, &cells);
-            sum += cells;
-        }
-        at = put_number(text, put_word(text, at, "plots"), count);
-        at = put_number(text, put_word(text, at, " cells"), sum);
+        *written = (size_t)sprintf(to, "refused %u\n", refused);
+        return 0;
     }
-    *written = put_word(text, at, "\n");
+    size_t at = (size_t)sprintf(to, "plot i j n0 n1 n2 n3 n4 n5 n6 n7 cells\n");
+    for (const uint8_t *t = sheet + len - TRAILER, *r = t - RECORD * (size_t)count; r != t; r += RECORD) {
+        at += put_row(to + at, r, &cells);
+        sum += cells;
+    }
+    *written = at + (size_t)sprintf(to + at, "plots %u cells %llu\n", count, (unsigned long long)sum);
     return 0;
 }

@@ -5,13 +5,11 @@ set -eu
 here=$(cd "$(dirname "$0")" && pwd)
 root=$(dirname "$here")
 built=$root/target/bench
-archive=$root/target/staticlib/libkoxirmeta_c.a
 warn='-std=gnu11 -Wall -Wextra -Werror'
 mkdir -p "$built"
 [ $# -gt 0 ] || set -- compare benchmark
 
-echo "run.sh: proving koxirmeta_c and what it stands on, and building the archive"
-(cd "$root" && rt staticlib koxirmeta_c) >"$built/staticlib.log" 2>&1 || { cat "$built/staticlib.log"; exit 1; }
+sh "$root/bindings/archive.sh"
 for program in "$@"; do
     case $program in
     compare) set -- -O3 compare.c compare_octagons.c compare_pairs.c compare_lengths.c compare_sheets.c inputs.c cells.c walks.c search.c splits.c sheets.c listings.c ;;
@@ -19,6 +17,6 @@ for program in "$@"; do
     *) echo "run.sh: no program $program" >&2; exit 2 ;;
     esac
     echo "run.sh: compiling and running $program"
-    (cd "$here" && gcc $warn "$@" -o "$built/$program" "$archive")
+    (cd "$here" && gcc $warn "$@" -o "$built/$program" "$root/target/bindings/libkoxirmeta.a")
     "$built/$program"
 done

@@ -1,7 +1,7 @@
 /* Octagon plots on the quarter-metre grid, for C and C++.
  *
- * Every function is proved: crates/koxirmeta_c states what each answers and what it leaves in the memory that it was lent,
- * and Rattle's checker has accepted it. `rt staticlib koxirmeta_c` makes target/staticlib/libkoxirmeta_c.a.
+ * Every function is proved: crates/koxirmeta_c, and crates/listing_c for the listing, state what each answers and what it leaves in
+ * the memory that it was lent, and Rattle's checker has accepted it. bindings/archive.sh makes target/bindings/libkoxirmeta.a.
  *
  * ANSWERS. Each call returns KX_ACCEPTED (0), the number of a refusal of document 01, or KX_WRONG_LENGTH. Only an accepted call
  * writes: after any other answer, all that was lent holds what it held before.

@@ -1,7 +1,7 @@
 //! Octagon plots on the quarter-metre grid, for Rust: safe functions over the calls that koxirmeta.h describes.
 //!
 //! Each function answers what the call wrote, or the [`Refusal`]. It compiles under the editions 2021 and 2024, with Rust 1.82 or
-//! newer, and links with `libkoxirmeta_c.a`.
+//! newer, and links with `libkoxirmeta.a`, which archive.sh makes.
 #![warn(missing_docs)]
 
 use std::error::Error;

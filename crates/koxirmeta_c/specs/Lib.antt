@@ -3,4 +3,3 @@ pub mod Calls
 pub mod Outlines
 pub mod Splits
 pub mod Sheets
-pub mod Listings

@@ -5,7 +5,6 @@
 // A call reads its slices, works its answer out and hands it over by a `give` function, which tests all their lengths. What is
 // read from a slice of the wrong length is a stand-in, and so is what is worked out from it.
 mod codes;
-pub mod listing;
 mod octagons;
 pub mod operations;
 pub mod outlines;

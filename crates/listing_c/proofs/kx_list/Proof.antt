@@ -1,9 +1,9 @@
 -- `kx_list` meets its contract: the text and its length are those of `report::list`. Assumes nothing.
 use mathlib.Core.Path.{refl, ap₂}
 use borrow.Author.Needs.{needs}
 use Rattle.koxirmeta_c.specs.Calls.{status}
-use Rattle.koxirmeta_c.proofs.listing.kx_list.Statement.{statement}
-use Rattle.koxirmeta_c.proofs.listing.kx_list.Tie as tie
+use Rattle.listing_c.proofs.kx_list.Statement.{statement}
+use Rattle.listing_c.proofs.kx_list.Tie as tie
 
 returns : tie.Need-returns
 unfolding status
