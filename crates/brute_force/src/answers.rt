@@ -100,11 +100,16 @@ fn is_octagon(bench: &Bench, o: Octagon) -> bool {
         & is_signed(bench, 7, o.c7)
 }
 
+// Whether a refusal is the one expected.
+pub fn is_refused(bench: &Bench, number: u32) -> bool {
+    (0 < number) & (number as usize == bench[NUMBER])
+}
+
 // Whether the library's answer is the one expected.
 pub fn is_answer(bench: &Bench, given: Answer) -> bool {
     match given {
         Answer::Octagon(o) => is_octagon(bench, o),
-        Answer::Refused(n) => n as usize == bench[NUMBER],
+        Answer::Refused(n) => is_refused(bench, n),
     }
 }
 

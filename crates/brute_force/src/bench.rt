@@ -54,9 +54,13 @@ pub fn get(bench: &Bench, row: usize, k: usize) -> usize
     bench[row + k]
 }
 
-// A signed number counted from LIFT.
+// A signed number of the library counted from LIFT.
 pub fn lifted(z: i32) -> usize {
-    (z as i64 + 4294967296) as usize
+    let n = integers::magnitude(z) as usize;
+    if z < 0 {
+        return std::num::wrapping_sub_usize(LIFT, n);
+    }
+    std::num::wrapping_add_usize(LIFT, n)
 }
 
 // A number counted from LIFT as a signed one, or the nearest that there is.

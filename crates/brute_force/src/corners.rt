@@ -3,7 +3,6 @@ ghost use Prim.Native.Nat.{_<_};
 use crate::answers;
 use crate::bench::Bench;
 use crate::bench::EXPECTED;
-use crate::bench::NUMBER;
 use crate::bench::PAIR;
 use crate::bench::PLACES;
 use crate::grid;
@@ -42,6 +41,6 @@ pub fn is_place(bench: &Bench, given: Located) -> bool {
         Located::Place(p) => {
             is_quarter(p.east, bench[EXPECTED]) & is_quarter(p.north, bench[EXPECTED + 1])
         }
-        Located::Refused(n) => n as usize == bench[NUMBER],
+        Located::Refused(n) => answers::is_refused(bench, n),
     }
 }

@@ -3,7 +3,6 @@ ghost use Prim.Native.Nat.{_<_};
 use crate::answers;
 use crate::bench::Bench;
 use crate::bench::EXPECTED;
-use crate::bench::NUMBER;
 use crate::bench::OPERANDS;
 use crate::bench::OUTLINE;
 use crate::bench::PAIR;
@@ -20,8 +19,8 @@ use octagon::Octagon;
 
 fn is_count(bench: &Bench, given: Count) -> bool {
     match given {
-        Count::Cells(n) => n as usize == bench[EXPECTED],
-        Count::Refused(n) => n as usize == bench[NUMBER],
+        Count::Cells(n) => (0 < n) & (n as usize == bench[EXPECTED]),
+        Count::Refused(n) => answers::is_refused(bench, n),
     }
 }
 

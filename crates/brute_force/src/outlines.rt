@@ -5,7 +5,6 @@ use crate::answers::is_signed;
 use crate::bench::BOUNDS;
 use crate::bench::Bench;
 use crate::bench::EXPECTED;
-use crate::bench::NUMBER;
 use crate::bench::OUTLINE;
 use crate::bench::PAIR;
 use crate::bench::PLACES;
@@ -42,7 +41,7 @@ pub fn is_outline(bench: &Bench, given: Outlined) -> bool {
         Outlined::Outline(o) => has_sides(bench, o)
             & is_signed(bench, 8, o.i)
             & is_signed(bench, 9, o.j),
-        Outlined::Refused(n) => n as usize == bench[NUMBER],
+        Outlined::Refused(n) => answers::is_refused(bench, n),
     }
 }
 

@@ -4,7 +4,6 @@ use crate::answers::is_signed;
 use crate::bench::BOUNDS;
 use crate::bench::Bench;
 use crate::bench::ELEMENT;
-use crate::bench::NUMBER;
 use crate::bench::OPERANDS;
 use crate::bench::OUTLINE;
 use crate::bench::PLACES;
@@ -137,7 +136,7 @@ fn is_split(bench: &mut Bench, given: Decomposed) -> bool {
                 & is_signed(bench, 9, start.j)
                 & rebuilds(bench, counts_of(counts))
         }
-        Decomposed::Refused(n) => n as usize == bench[NUMBER],
+        Decomposed::Refused(n) => answers::is_refused(bench, n),
     }
 }
 

@@ -2,9 +2,9 @@
 use borrow.Author.Needs.{needs}
 use mir.Facts.{toZ-ofZ}
 use Rattle.integers.proofs.Range.{widened}
-use Rattle.brute_force.proofs.Lift.{wide, sum-fits, sum-natural}
-use Rattle.brute_force.proofs.bench.lifted.Statement.{statement}
-use Rattle.brute_force.proofs.bench.lifted.Tie as tie
+use Rattle.cases.proofs.Lift.{wide, sum-fits, sum-natural}
+use Rattle.cases.proofs.signed.lifted.Statement.{statement}
+use Rattle.cases.proofs.signed.lifted.Tie as tie
 
 add-result : tie.Need-add-result
 add-result c = rw (wide (c .fits .z)) (sum-fits (c .args .z) (c .fits .z))
