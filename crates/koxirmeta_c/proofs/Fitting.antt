@@ -4,17 +4,13 @@ use mathlib.Core.Bool.{Bool, true, false, _&&_}
 use Prim.Native.Nat.{ℕ}
 use lib.Dec.{eqb}
 use borrow.Author.Tests.{eqb-true}
+use Rattle.integers.proofs.Tests.{both-true}
 use Rattle.octagon.specs.Outcome.{Outcome, accepted, refused}
 use Rattle.koxirmeta_c.specs.Calls.{wrong-length, fitted, status, Hands}
 
--- two tests that hold together
-pub both : (a b : Bool) → (a && b) ≡ true → (a ≡ true) × (b ≡ true)
-both true b e = (refl, e)
-both false b e = (e, cc)
-
 -- two lengths that were tested together
 pub sized : (m n : ℕ) {j k : ℕ} → (eqb m j && eqb n k) ≡ true → (m ≡ j) × (n ≡ k)
-sized m n {j} {k} e = let t = both (eqb m j) (eqb n k) e in (eqb-true m j (t .0), eqb-true n k (t .1))
+sized m n {j} {k} e = let t = both-true (eqb m j) (eqb n k) e in (eqb-true m j (t .0), eqb-true n k (t .1))
 
 module _ {A B : Type 0} {f : A → B} {m m′ : B} {r : ℕ} where
   -- the same, by the name of its outcome

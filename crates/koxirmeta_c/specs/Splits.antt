@@ -17,8 +17,8 @@ abbrev pub holds-split : List ℤ → List ℕ → Bool
 holds-split from counts = is-pair from && eqb (length counts) 13
 
 -- the start of a split, and its counts in the pieces' order
-abbrev pub parts-of : Split → List ℤ × List ℕ
-parts-of s = (start (s .start .i) (s .start .j), listed (s .counts))
+abbrev pub split-parts : Split → List ℤ × List ℕ
+split-parts s = (start (s .start .i) (s .start .j), listed (s .counts))
 
 -- the call
 abbrev pub splitting : List ℤ → List ℤ → List ℕ → Outcome Split

@@ -50,7 +50,7 @@ fn put_sides(sides: &mut [u32], o: Outline)
 // Writes an outline.
 pub fn put_outline(start: &mut [i32], sides: &mut [u32], o: Outline)
     requires { ⌜ (length (now start) ≡ 2) × (length (now sides) ≡ 8) ⌝ }
-    ensures { λ _. ⌜ (now (start .exit), now (sides .exit)) ≡ outlines.parts-of o ⌝ }
+    ensures { λ _. ⌜ (now (start .exit), now (sides .exit)) ≡ outlines.outline-parts o ⌝ }
 {
     put_start(start, o.i, o.j);
     put_sides(sides, o);

@@ -3,7 +3,7 @@ ghost use mathlib.Core.Path.{_≡_};
 ghost use mathlib.Core.Bool.{_&&_};
 ghost use lib.ListN.{length};
 ghost use Rattle.outline.specs.Outlining.{outcome};
-ghost use Rattle.outline.specs.Places.{outcome as «place-outcome»};
+ghost use Rattle.outline.specs.Places.{«place-outcome»};
 ghost use Rattle.koxirmeta_c.specs.Calls as calls;
 ghost use Rattle.koxirmeta_c.specs.Outlines as outlines;
 use crate::ACCEPTED;
@@ -32,7 +32,7 @@ pub extern "C" fn kx_to_octagon(start: &[i32], sides: &[u32], out: &mut [i32]) -
 
 // Hands an outline over, where the slice that was read, `start` and `sides` have the right lengths.
 fn give_outline(t: Outlined, fits: bool, start: &mut [i32], sides: &mut [u32]) -> u32
-    ensures { λ r. ⌜ calls.Hands (calls.fitted (fits && outlines.holds-outline (now (start .entry)) (now (sides .entry))) (outcome t)) outlines.parts-of (now (start .entry), now (sides .entry)) (now (start .exit), now (sides .exit)) r ⌝ }
+    ensures { λ r. ⌜ calls.Hands (calls.fitted (fits && outlines.holds-outline (now (start .entry)) (now (sides .entry))) (outcome t)) outlines.outline-parts (now (start .entry), now (sides .entry)) (now (start .exit), now (sides .exit)) r ⌝ }
 {
     if fits & ((start.len() == 2) & (sides.len() == 8)) {
         match t {
@@ -49,7 +49,7 @@ fn give_outline(t: Outlined, fits: bool, start: &mut [i32], sides: &mut [u32]) -
 // The outline of eight bounds.
 #[no_mangle]
 pub extern "C" fn kx_to_outline(bounds: &[i32], start: &mut [i32], sides: &mut [u32]) -> u32
-    ensures { λ r. ⌜ calls.Hands (outlines.outlining (now (bounds .entry)) (now (start .entry)) (now (sides .entry))) outlines.parts-of (now (start .entry), now (sides .entry)) (now (start .exit), now (sides .exit)) r ⌝ }
+    ensures { λ r. ⌜ calls.Hands (outlines.outlining (now (bounds .entry)) (now (start .entry)) (now (sides .entry))) outlines.outline-parts (now (start .entry), now (sides .entry)) (now (start .exit), now (sides .exit)) r ⌝ }
 {
     give_outline(
         to_outline(octagon_in(bounds)),

@@ -1,4 +1,4 @@
-// Sheets in lent buffers: check, fetch, start and insert.
+// Sheets in lent buffers: check, fetch, read, start and insert.
 ghost use mathlib.Core.Path.{_≡_};
 ghost use Rattle.sheet.specs.Answers.{«count-outcome», «record-outcome», «length-outcome»};
 ghost use Rattle.sheet.specs.Checking.{checked};

@@ -38,7 +38,7 @@ fn put_counts(counts: &mut [u32], k: Counts)
 // Writes a split.
 fn put_split(start: &mut [i32], counts: &mut [u32], s: Split)
     requires { ⌜ (length (now start) ≡ 2) × (length (now counts) ≡ 13) ⌝ }
-    ensures { λ _. ⌜ (now (start .exit), now (counts .exit)) ≡ splits.parts-of s ⌝ }
+    ensures { λ _. ⌜ (now (start .exit), now (counts .exit)) ≡ splits.split-parts s ⌝ }
 {
     let from = s.start;
     put_start(start, from.i, from.j);
@@ -47,7 +47,7 @@ fn put_split(start: &mut [i32], counts: &mut [u32], s: Split)
 
 // Hands a split over, where the slice that was read, `start` and `counts` have the right lengths.
 fn give_split(d: Decomposed, fits: bool, start: &mut [i32], counts: &mut [u32]) -> u32
-    ensures { λ r. ⌜ calls.Hands (calls.fitted (fits && splits.holds-split (now (start .entry)) (now (counts .entry))) (outcome d)) splits.parts-of (now (start .entry), now (counts .entry)) (now (start .exit), now (counts .exit)) r ⌝ }
+    ensures { λ r. ⌜ calls.Hands (calls.fitted (fits && splits.holds-split (now (start .entry)) (now (counts .entry))) (outcome d)) splits.split-parts (now (start .entry), now (counts .entry)) (now (start .exit), now (counts .exit)) r ⌝ }
 {
     if fits & ((start.len() == 2) & (counts.len() == 13)) {
         match d {
@@ -64,7 +64,7 @@ fn give_split(d: Decomposed, fits: bool, start: &mut [i32], counts: &mut [u32]) 
 // The start cell and the counts of the thirteen pieces of eight bounds.
 #[no_mangle]
 pub extern "C" fn kx_decompose(bounds: &[i32], start: &mut [i32], counts: &mut [u32]) -> u32
-    ensures { λ r. ⌜ calls.Hands (splits.splitting (now (bounds .entry)) (now (start .entry)) (now (counts .entry))) splits.parts-of (now (start .entry), now (counts .entry)) (now (start .exit), now (counts .exit)) r ⌝ }
+    ensures { λ r. ⌜ calls.Hands (splits.splitting (now (bounds .entry)) (now (start .entry)) (now (counts .entry))) splits.split-parts (now (start .entry), now (counts .entry)) (now (start .exit), now (counts .exit)) r ⌝ }
 {
     give_split(
         decompose(octagon_in(bounds)),

@@ -2,13 +2,12 @@
 use mathlib.Core.Path.{_≡_, refl}
 use Rattle.octagon.specs.declared.Octagon.{Octagon}
 use Rattle.octagon.specs.Outcome.{accepted}
-use Rattle.octagon.specs.NormalForm.{placed}
+use Rattle.octagon.specs.NormalForm.{normalised, placed}
 use Rattle.octagon.proofs.Map.{near-test}
 use Rattle.octagon.proofs.NormalForms.{accepted-near, normalised-again}
 use Rattle.morphology.specs.Operations.{sums, differences, dilation, erosion}
 use Rattle.morphology.specs.Folds.{multiples, dilation-n, erosion-n}
 use Rattle.morphology.proofs.Multiples.{sums-zero, sums-suc, differences-zero, differences-suc}
-use Rattle.morphology.proofs.Operands.{Accepted}
 
 -- the bounds of one fold
 pub sums-one : (a b : Octagon) → sums a (multiples 1 b) ≡ sums a b
@@ -27,11 +26,11 @@ unfolding erosion-n erosion
 erosion-one p f = simp differences-one
 
 -- no folds: the first operand, normalised, where both are accepted
-module _ {p f a b : Octagon} (h : Accepted p f a b) where
+module _ (p f a b : Octagon) (h : normalised p ≡ accepted a) (k : normalised f ≡ accepted b) where
   pub dilation-none : dilation-n p f 0 ≡ accepted a
   unfolding dilation-n placed
-  dilation-none = rw (h .of-p, h .of-f, sums-zero a b, near-test a (accepted-near p a (h .of-p))) refl
+  dilation-none = rw (h, k, sums-zero a b, near-test a (accepted-near p a h)) refl
 
   pub erosion-none : erosion-n p f 0 ≡ accepted a
   unfolding erosion-n
-  erosion-none = rw (h .of-p, h .of-f, differences-zero a b, normalised-again p a (h .of-p)) refl
+  erosion-none = rw (h, k, differences-zero a b, normalised-again p a h) refl

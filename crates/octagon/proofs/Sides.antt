@@ -1,4 +1,4 @@
--- Bounds are normalised exactly where the eight side lengths of document 01 are nought or more, and then the sides close. Assumes nothing.
+-- Bounds are normalised exactly where the eight side lengths of document 01 are nought or more; and the sides of any bounds close. Assumes nothing.
 use mathlib.Core.Path.{_≡_}
 use mathlib.Core.Logic.{_↔_}
 use native.Mathlib.Omega.{arith}

@@ -9,7 +9,7 @@ use Rattle.octagon.specs.declared.Octagon.{Octagon}
 use Rattle.octagon.specs.Outcome.{Outcome, accepted, refused, no-cell, off-map}
 use Rattle.octagon.specs.Cells.{limit}
 
--- the least that an even bound can be: its own value, two sums of bounds across a corner, half the sum of its neighbours
+-- the least that an even bound can be: its own value, two sums of a neighbour and the even bound beyond the other, half the sum of its neighbours
 unfoldable pub even-bound : ℤ → ℤ → ℤ → ℤ → ℤ → ℤ
 even-bound far-before before own after far-after =
     minℤ (minℤ own (far-before +ℤ after)) (minℤ (before +ℤ far-after) (halfℤ (before +ℤ after)))

@@ -47,9 +47,9 @@ unfoldable pub located : Octagon → ℕ → Outcome Place
 located c k = then (outlined c) (λ o. place-of-vertex o k)
 
 -- document 01's number and values for each case of `Located`
-abbrev pub outcome : Located → Outcome Place
-outcome (At p) = accepted p
-outcome (Refused n) = refused n
+abbrev pub place-outcome : Located → Outcome Place
+place-outcome (At p) = accepted p
+place-outcome (Refused n) = refused n
 
 -- a cell whose coordinates fit 32 bits
 pub record HeldCell (v : Cell) : Type 0 where

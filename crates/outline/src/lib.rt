@@ -7,7 +7,7 @@ ghost use mathlib.Core.Path.{_≡_};
 ghost use Rattle.octagon.specs.Answers.{outcome as «octagon-outcome»};
 ghost use Rattle.outline.specs.Tracing.{traced};
 ghost use Rattle.outline.specs.Outlining.{outlined, outcome};
-ghost use Rattle.outline.specs.Places.{located, outcome as «place-outcome»};
+ghost use Rattle.outline.specs.Places.{located, «place-outcome»};
 use octagon::Answer;
 use octagon::Octagon;
 use place::Place;

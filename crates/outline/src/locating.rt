@@ -12,7 +12,7 @@ use crate::walk::vertex;
 // Vertex k (document 01's corner k) in metres, where the vertices fit 32 bits. Refuses a number above 7.
 pub fn place_of_vertex(o: Outline, k: u32) -> Located
     requires { ⌜ ((n : ℕ) → n < 8 → places.HeldCell (walk.vertex o n)) ⌝ }
-    ensures { λ r. ⌜ places.outcome r ≡ places.place-of-vertex o k ⌝ }
+    ensures { λ r. ⌜ places.place-outcome r ≡ places.place-of-vertex o k ⌝ }
 {
     if k > 7 {
         return Located::Refused(NO_VERTEX);

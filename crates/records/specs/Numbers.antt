@@ -1,4 +1,4 @@
--- AreBytes, and numbers in bytes, the lowest byte first (document 01: little-endian), signed ones in two's complement; and numbers in
+-- Lists of bytes, and numbers in bytes, the lowest byte first (document 01: little-endian), signed ones in two's complement; and numbers in
 -- fields of given widths, one after the other. Assumes nothing.
 use Prim.Native.Nat.{ℕ, zero, suc, _+_, _-_, _*_, _/_, _%_, _^_, _<_}
 use mathlib.Core.Bool.{Bool, true, cond, _&&_}

@@ -15,7 +15,7 @@ use Rattle.outline.specs.Tracing.{bounds-at, drawn, traced}
 use Rattle.records.specs.Numbers.{signed, twos}
 use Rattle.sheet.specs.Checking.{stated, framed, judged, surveyed, checked}
 use Rattle.records.specs.Text.{ascii}
-use Rattle.report.specs.Decimal.{decimal, signed-decimal as signed-text}
+use Rattle.report.specs.Decimal.{decimal, signed-decimal}
 use Rattle.report.specs.Lines.{heading-line, row-line, last-line, refused-line}
 use Rattle.report.specs.Listing.{cell-number, plots, row-of, full, listing}
 
@@ -37,7 +37,7 @@ texts =
     ascii "plot i j n0 n1 n2 n3 n4 n5 n6 n7 cells\nplots 0 cells 0\n" ∷ ascii "refused 8\n" ∷ ascii "refused 9\n" ∷ ascii "refused 11\n" ∷ []
 
 listed : map (λ s. listing s (length s)) sheets ≡ texts
-unfolding sheets texts seventh piece encoded decoded trailer trailer-at checked framed stated surveyed judged twos signed traced drawn bounds-at vertex closes placed is-on-map cell-count normalised normal-form tight-even tight-odd even-bound odd-bound has-cell minℤ halfℤ area rectangle cuts triangle listing full plots row-of cell-number heading-line row-line last-line refused-line decimal signed-text
+unfolding sheets texts seventh piece encoded decoded trailer trailer-at checked framed stated surveyed judged twos signed traced drawn bounds-at vertex closes placed is-on-map cell-count normalised normal-form tight-even tight-odd even-bound odd-bound has-cell minℤ halfℤ area rectangle cuts triangle listing full plots row-of cell-number heading-line row-line last-line refused-line decimal signed-decimal
 listed = refl
 
 -- numbers at the ends of their ranges
@@ -45,6 +45,6 @@ numbers : map decimal (0 ∷ 9 ∷ 10 ∷ 18446744073709551615 ∷ []) ≡ ascii
 unfolding decimal
 numbers = refl
 
-integers : map signed-text (pos 0 ∷ negsuc 0 ∷ pos 2147483647 ∷ negsuc 2147483647 ∷ []) ≡ ascii "0" ∷ ascii "-1" ∷ ascii "2147483647" ∷ ascii "-2147483648" ∷ []
-unfolding decimal signed-text
+integers : map signed-decimal (pos 0 ∷ negsuc 0 ∷ pos 2147483647 ∷ negsuc 2147483647 ∷ []) ≡ ascii "0" ∷ ascii "-1" ∷ ascii "2147483647" ∷ ascii "-2147483648" ∷ []
+unfolding decimal signed-decimal
 integers = refl

@@ -10,7 +10,7 @@ use lib.ListN.{length, getD, drop, length-append}
 use Rattle.integers.proofs.Parts.{up, dn, subℕ-parts}
 use Rattle.octagon.specs.Outcome.{Outcome, accepted, refused}
 use Rattle.octagon.proofs.Outcomes.{refused-same, accepted-not-refused}
-use Rattle.records.specs.Numbers.{AreBytes, signed as two-complement, unpacked}
+use Rattle.records.specs.Numbers.{AreBytes, signed, unpacked}
 use Rattle.records.specs.Parts.{part}
 use Rattle.records.specs.Rows.{records}
 use Rattle.sheet.specs.declared.Record.{Record}
@@ -80,8 +80,8 @@ unfolding up dn
 far v (pos n) h e = omega arith
 far v (negsuc n) h e = omega arith
 
-start-small : (v : ℕ) → v < 65536 → natAbs (two-complement 2 v) < 2 ^ 63
-unfolding two-complement
+start-small : (v : ℕ) → v < 65536 → natAbs (signed 2 v) < 2 ^ 63
+unfolding signed
 start-small v h = go (ltb v 32768)
   where
     go : (b : Bool) → natAbs (cond b (pos v) (subℕ v 65536)) < 2 ^ 63

@@ -4,7 +4,8 @@ use borrow.Author.Needs.{needs}
 use borrow.Author.Tests.{eqb-true}
 use Rattle.octagon.specs.Answers.{outcome}
 use Rattle.koxirmeta_c.specs.Calls.{is-eight}
-use Rattle.koxirmeta_c.proofs.Fitting.{both, gives, keeps, wrong}
+use Rattle.integers.proofs.Tests.{both-true}
+use Rattle.koxirmeta_c.proofs.Fitting.{gives, keeps, wrong}
 use Rattle.koxirmeta_c.proofs.octagons.give.Statement.{statement}
 use Rattle.koxirmeta_c.proofs.octagons.give.Tie as tie
 
@@ -12,7 +13,7 @@ put-bounds-requires : tie.Need-put-bounds-requires
 put-bounds-requires c κs =
     let test = c .before .before .before .before in
     let a = test .before .args in
-    eqb-true _ 8 (both (a .fits) (is-eight (a .out .now)) (test .if1 .taken) .1)
+    eqb-true _ 8 (both-true (a .fits) (is-eight (a .out .now)) (test .if1 .taken) .1)
 
 returns : tie.Need-returns
 returns c =

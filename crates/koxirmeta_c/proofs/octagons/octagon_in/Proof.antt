@@ -1,5 +1,4 @@
--- `octagon_in` meets its contract: eight reads. Assumes nothing.
-use mathlib.Core.Path.{refl}
+-- `octagon_in` meets its contract: eight reads, or none. Assumes nothing.
 use borrow.Author.Needs.{needs}
 use borrow.Author.Tests.{eq-eqb, ne-eqb}
 use mir.Syntax.{w32}

@@ -5,7 +5,8 @@ use mathlib.Core.Bool.{_&&_}
 use lib.Dec.{eqb}
 use lib.ListN.{length}
 use Rattle.decomposition.specs.Splitting.{outcome}
-use Rattle.koxirmeta_c.proofs.Fitting.{both, sized, gives, keeps, wrong}
+use Rattle.integers.proofs.Tests.{both-true}
+use Rattle.koxirmeta_c.proofs.Fitting.{sized, gives, keeps, wrong}
 use Rattle.koxirmeta_c.proofs.splits.give_split.Statement.{statement}
 use Rattle.koxirmeta_c.proofs.splits.give_split.Tie as tie
 
@@ -14,7 +15,7 @@ lengths c =
     let a = c .before .before .args in
     let start = length (a .start .now) in
     let counts = length (a .counts .now) in
-    sized start counts (both (a .fits) (eqb start 2 && eqb counts 13) (c .if1 .taken) .1)
+    sized start counts (both-true (a .fits) (eqb start 2 && eqb counts 13) (c .if1 .taken) .1)
 
 returns : tie.Need-returns
 returns c =
