@@ -10,6 +10,7 @@ use Rattle.octagon.specs.declared.Octagon.{Octagon}
 use Rattle.octagon.specs.Outcome.{Outcome}
 use Rattle.outline.specs.declared.Outline.{Outline}
 use Rattle.outline.specs.declared.place.Place.{Place}
+use Rattle.outline.specs.Walk.{with-sides}
 use Rattle.outline.specs.Tracing.{traced}
 use Rattle.outline.specs.Outlining.{outlined}
 use Rattle.outline.specs.Places.{located}
@@ -21,18 +22,7 @@ is-pair s = eqb (length s) 2
 
 -- the outline of a start and eight sides
 unfoldable pub outline-in : List ℤ → List ℕ → Outline
-outline-in s n = record {
-  i = getD s 0 (pos 0);
-  j = getD s 1 (pos 0);
-  n0 = getD n 0 0;
-  n1 = getD n 1 0;
-  n2 = getD n 2 0;
-  n3 = getD n 3 0;
-  n4 = getD n 4 0;
-  n5 = getD n 5 0;
-  n6 = getD n 6 0;
-  n7 = getD n 7 0;
-}
+outline-in s n = with-sides (getD s 0 (pos 0)) (getD s 1 (pos 0)) n
 
 -- the slices of a start and of eight sides
 abbrev pub holds-outline : List ℤ → List ℕ → Bool
