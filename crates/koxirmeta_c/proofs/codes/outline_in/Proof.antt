@@ -11,9 +11,10 @@ use Rattle.koxirmeta_c.proofs.codes.outline_in.Tie as tie
 returns : tie.Need-returns
 unfolding outline-in
 returns c =
-    let j = c .before .before .before .before .before .before .before .before in
-    let i = j .before in
-    rw (kept w32 {z = getD (i .before .args .start .now) 0 (pos 0)} (i .t4 .given), kept w32 {z = getD (i .before .args .start .now) 1 (pos 0)} (j .t6 .given))
+    let at-n3 = c .before .before .before .before in
+    let at-j = at-n3 .before .before .before .before in
+    let at-i = at-j .before in
+    rw (kept w32 {z = getD (at-i .before .args .start .now) 0 (pos 0)} (at-i .t4 .given), kept w32 {z = getD (at-i .before .args .start .now) 1 (pos 0)} (at-j .t6 .given))
 
 pub outline-in-spec : {M : Type 1} → statement M
 outline-in-spec =

@@ -16,7 +16,8 @@ lengths c = let a = c .before .before .args in sized (length (a .start .now)) (l
 returns : tie.Need-returns
 returns c =
     let put = c .before .before .before in
-    let case = put .before .before .before .before .before in
+    let told = put .before .before .before .before in
+    let case = told .before in
     gives (case .before .before .if1 .taken) (ap record-outcome (case .f .given .1))
     (ap (λ (q : List ℤ × List ℕ). (case .f .given .0 .0 .number, q .0, q .1)) (put .put-outline .ensures))
 
@@ -31,7 +32,7 @@ give-record-spec =
     tie.close
     (tie.spec
     (λ c. search needs)
-    (λ c κs. lengths (c .before .before .before .before .before .before))
+    (λ c κs. let case = c .before .before .before .before in lengths (case .before .before))
     (λ c. search needs)
     (λ c. search needs)
     returns

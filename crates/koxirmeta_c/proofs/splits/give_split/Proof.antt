@@ -34,7 +34,7 @@ give-split-spec =
     tie.close
     (tie.spec
     (λ c. search needs)
-    (λ c κs. lengths (c .before .before .before .before .before))
+    (λ c κs. let case = c .before .before .before in lengths (case .before .before))
     (λ c. search needs)
     (λ c. search needs)
     returns
