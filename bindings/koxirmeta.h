@@ -71,15 +71,17 @@ uint32_t kx_count(const int32_t *bounds, size_t bounds_len, uint32_t *cells);
 /* Two operands of eight bounds each, the result to out[KX_BOUNDS]. Each operand's 1 and 2, the plot's first; then
  *   dilate   (spread)  every sum of a cell of the plot and a cell of the element: 4, then 2 for the result
  *   erode    (trim)    the positions at which the whole element stands inside the plot: 5, then 2 for the result
- *   opening            the erosion, and where that is accepted the dilation of what it left: the refusals of each
- *   closing            the dilation, and where that is accepted the erosion of what it gave: the refusals of each */
+ *   opening            the erosion, and where that is accepted the dilation of what it left: the erosion's 5 and 2, then 4
+ *   closing            the dilation, and where that is accepted the erosion of what it gave: the dilation's 4 and 2, never 5 */
 uint32_t kx_dilate(const int32_t *plot, size_t plot_len, const int32_t *element, size_t element_len, int32_t *out, size_t out_len);
 uint32_t kx_erode(const int32_t *plot, size_t plot_len, const int32_t *element, size_t element_len, int32_t *out, size_t out_len);
 uint32_t kx_opening(const int32_t *plot, size_t plot_len, const int32_t *element, size_t element_len, int32_t *out, size_t out_len);
 uint32_t kx_closing(const int32_t *plot, size_t plot_len, const int32_t *element, size_t element_len, int32_t *out, size_t out_len);
 
-/* n times by the same element, in constant time. 6 before all else; then as above, judged on the final set only. With n = 0
- * both give the plot, normalised. */
+/* n times by the same element, in constant time. 6 before all else, then each operand's 1 and 2; then
+ *   dilate_n           4 where n is at least 1, then 2 for the final set
+ *   erode_n            5, then 2, both for the final set
+ * With n = 0 both give the plot, normalised. */
 uint32_t kx_dilate_n(const int32_t *plot, size_t plot_len, const int32_t *element, size_t element_len, uint32_t n, int32_t *out, size_t out_len);
 uint32_t kx_erode_n(const int32_t *plot, size_t plot_len, const int32_t *element, size_t element_len, uint32_t n, int32_t *out, size_t out_len);
 

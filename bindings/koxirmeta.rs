@@ -119,7 +119,7 @@ impl fmt::Display for Refusal {
         write!(f, "refused {}: ", self.number())?;
         match self {
             Refusal::NoCell => write!(f, "the bounds hold no cell"),
-            Refusal::OffMap => write!(f, "some cell lies off the map, more than {MAP_LIMIT} cells from its middle"),
+            Refusal::OffMap => write!(f, "some cell lies off the map, a coordinate beyond {MAP_LIMIT} either way"),
             Refusal::NotClosed => write!(f, "the outline does not close"),
             Refusal::OpposedRows => write!(f, "the operands are opposed diagonal rows"),
             Refusal::NothingLeft => write!(f, "no position fits"),
@@ -210,20 +210,26 @@ of_two! {
     erode, kx_erode
 }
 of_two! {
-    /// The erosion, and where that is accepted the dilation of what it left. Refusals: those of each.
+    /// The erosion, and where that is accepted the dilation of what it left.
+    ///
+    /// Refusals: those of the erosion, then `OpposedRows`.
     opening, kx_opening
 }
 of_two! {
-    /// The dilation, and where that is accepted the erosion of what it gave. Refusals: those of each.
+    /// The dilation, and where that is accepted the erosion of what it gave.
+    ///
+    /// Refusals: those of the dilation, and no other.
     closing, kx_closing
 }
 of_two! {
-    /// The dilation n times by the same element. Refusals: `TooManyFolds`, then those of a dilation, judged on the final set only.
-    dilate_n, kx_dilate_n, times
+    /// The dilation n times by the same element. Refusals: `TooManyFolds`, each operand's; then
+    /// `OpposedRows` where n is at least 1, and `OffMap` for the final set.
+    dilate_n, kx_dilate_n, n
 }
 of_two! {
-    /// The erosion n times by the same element. Refusals: `TooManyFolds`, then those of an erosion, judged on the final set only.
-    erode_n, kx_erode_n, times
+    /// The erosion n times by the same element. Refusals: `TooManyFolds`, each operand's; then
+    /// `NothingLeft` and `OffMap`, both for the final set.
+    erode_n, kx_erode_n, n
 }
 
 /// The octagon of an outline. Refusals: `NotClosed`, `OffMap`.
@@ -290,6 +296,9 @@ pub fn sheet_insert(sheet: &mut [u8], len: usize, plot: &Plot) -> Result<usize, 
 
 /// The listing of the sheet in the first `len` bytes, at the start of `text`. It is always accepted: a sheet that [`sheet_check`]
 /// refuses has the listing `refused`, a space and the number.
+///
+/// [`TEXT`] is some two thirds of a megabyte: take it from the heap, as in
+/// `let mut text: Box<[u8; TEXT]> = vec![0; TEXT].try_into().unwrap();`.
 pub fn list<'a>(sheet: &[u8], len: usize, text: &'a mut [u8; TEXT]) -> Result<&'a [u8], Refusal> {
     let written = answer(|written: &mut usize| unsafe { calls::kx_list(sheet.as_ptr(), sheet.len(), len, text, written) })?;
     Ok(&text[..written])
