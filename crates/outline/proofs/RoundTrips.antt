@@ -3,9 +3,9 @@ use mathlib.Core.Path.{_≡_, sym, _∙_, ap}
 use mathlib.Core.Logic.{_↔_}
 use Prim.Native.Nat.{ℕ}
 use native.Mathlib.Omega.{arith}
-use lib.IntN.{ℤ, pos, negsuc, natAbs}
+use lib.IntN.{ℤ, pos, natAbs}
 use Rattle.integers.proofs.Parts.{up, dn, diff-parts, neg-up, neg-dn, parts-eq}
-use Rattle.integers.proofs.Linear.{Diff, #, _⊕_, neg, lit, _≼_, _≈_}
+use Rattle.integers.proofs.Linear.{#, _⊕_, neg, lit, _≼_, _≈_, natural}
 use Rattle.octagon.specs.declared.Octagon.{Octagon}
 use Rattle.octagon.specs.Outcome.{Outcome, accepted, refused}
 use Rattle.octagon.specs.NormalForm.{sides, even-side, odd-side, placed, normalised}
@@ -37,17 +37,11 @@ record SidesOf (a : Octagon) (o : Outline) : Type 0 where
   e6 : lit (o .n6) ≈ # (a .c5) ⊕ # (a .c7) ⊕ neg (# (a .c6) ⊕ # (a .c6))
   e7 : lit (o .n7) ≈ # (a .c6) ⊕ # (a .c0) ⊕ neg (# (a .c7))
 
--- an integer of nought or more is a natural number
-natural : (z : ℤ) (d : Diff) → # z ≈ d → lit 0 ≼ d → lit (natAbs z) ≈ d
-unfolding up dn
-natural (pos n) d e h = e
-natural (negsuc n) d e h = absurd (omega arith)
-
 even : (b o a : ℤ) → # o ⊕ # o ≼ # b ⊕ # a → lit (natAbs (even-side b o a)) ≈ # b ⊕ # a ⊕ neg (# o ⊕ # o)
-even b o a h = natural (even-side b o a) (# b ⊕ # a ⊕ neg (# o ⊕ # o)) (even-is b o a) (omega arith)
+even b o a h = omega (arith, even-is b o a, natural (even-side b o a) (omega (arith, even-is b o a)))
 
 odd : (b o a : ℤ) → # o ≼ # b ⊕ # a → lit (natAbs (odd-side b o a)) ≈ # b ⊕ # a ⊕ neg (# o)
-odd b o a h = natural (odd-side b o a) (# b ⊕ # a ⊕ neg (# o)) (odd-is b o a) (omega arith)
+odd b o a h = omega (arith, odd-is b o a, natural (odd-side b o a) (omega (arith, odd-is b o a)))
 
 outline-facts : (a : Octagon) → Normal a → SidesOf a (outline-of a)
 unfolding outline-of sides
