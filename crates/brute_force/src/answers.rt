@@ -5,7 +5,6 @@ use crate::bench::Bench;
 use crate::bench::EXPECTED;
 use crate::bench::LIFT;
 use crate::bench::NUMBER;
-use crate::bench::ZEROS;
 use crate::bench::get;
 use crate::bench::lifted;
 use crate::bench::lowered;
@@ -46,7 +45,7 @@ fn number_of(bench: &Bench, set: usize, empty: usize) -> usize
     if bench[BOUNDS] == 0 {
         return empty;
     }
-    if !sets::is_within(bench, set) {
+    if !sets::is_within(bench, BOUNDS, set) {
         return OPPOSED_ROWS;
     }
     if is_past(bench, 0) | is_past(bench, 2) | is_past(bench, 4) | is_past(bench, 6) {
@@ -55,9 +54,9 @@ fn number_of(bench: &Bench, set: usize, empty: usize) -> usize
     0
 }
 
-// Expects the ten numbers of a row, or a refusal where the number is not 0.
+// Expects the ten numbers of a row, or with a number that is not 0 a refusal, which has no others.
 pub fn expect_row(bench: &mut Bench, row: usize, number: usize)
-    requires { ⌜ row < 320 ⌝ }
+    requires { ⌜ row < 336 ⌝ }
 {
     let mut k = 0;
     while k < 10 {
@@ -65,11 +64,6 @@ pub fn expect_row(bench: &mut Bench, row: usize, number: usize)
         k += 1;
     }
     bench[NUMBER] = number;
-}
-
-// Expects a refusal, or an answer whose numbers are all 0.
-pub fn expect_number(bench: &mut Bench, number: usize) {
-    expect_row(bench, ZEROS, number);
 }
 
 // Expects the octagon whose cells are a set, or its refusal. Gives the refusal number, or 0.
@@ -114,7 +108,7 @@ pub fn is_answer(bench: &Bench, given: Answer) -> bool {
 }
 
 fn bound(bench: &Bench, row: usize, k: usize) -> i32
-    requires { ⌜ row < 320 ⌝ }
+    requires { ⌜ row < 336 ⌝ }
     requires { ⌜ k < 16 ⌝ }
 {
     lowered(get(bench, row, k))
@@ -122,7 +116,7 @@ fn bound(bench: &Bench, row: usize, k: usize) -> i32
 
 // An operand as the library takes it.
 pub fn octagon(bench: &Bench, row: usize) -> Octagon
-    requires { ⌜ row < 320 ⌝ }
+    requires { ⌜ row < 336 ⌝ }
 {
     Octagon {
         c0: bound(bench, row, 0),

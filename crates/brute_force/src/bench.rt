@@ -4,7 +4,7 @@
 // for the SIZE cells of a window and a 0 for what is off it; a set has a number, and its window a place in the row of the places.
 ghost use Prim.Native.Nat.{_<_};
 
-pub type Bench = [usize; 9928];
+pub type Bench = [usize; 9944];
 
 // The operands, eight bounds each, the plot's and then the element's.
 pub const OPERANDS: usize = 192;
@@ -31,8 +31,11 @@ pub const DRAWS: usize = 288;
 // A row that stays 0.
 pub const ZEROS: usize = 304;
 
+// A corner: its column and row, and zeros.
+pub const CORNER: usize = 320;
+
 // Where the sets begin: the plot's cells, the element's, those worked out so far, and those of the next step.
-pub const SETS: usize = 320;
+pub const SETS: usize = 336;
 
 pub const SPAN: usize = 2402;
 
@@ -48,7 +51,7 @@ pub const LIFT: usize = 4294967296;
 
 // Number k of a row.
 pub fn get(bench: &Bench, row: usize, k: usize) -> usize
-    requires { ⌜ row < 320 ⌝ }
+    requires { ⌜ row < 336 ⌝ }
     requires { ⌜ k < 16 ⌝ }
 {
     bench[row + k]

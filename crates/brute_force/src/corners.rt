@@ -1,7 +1,9 @@
 // Corners in metres beside walks on the enumerated cells.
 ghost use Prim.Native.Nat.{_<_};
 use crate::answers;
+use crate::answers::NO_CORNER;
 use crate::bench::Bench;
+use crate::bench::CORNER;
 use crate::bench::EXPECTED;
 use crate::bench::PAIR;
 use crate::bench::PLACES;
@@ -14,15 +16,11 @@ pub fn expect(bench: &mut Bench, set: usize)
     requires { ⌜ set < 4 ⌝ }
 {
     let k = bench[PAIR] % 9;
-    if 7 < k {
-        answers::expect_number(bench, answers::NO_CORNER);
-        return;
-    }
     let place = bench[PLACES + set];
     let cell = walks::corner(bench, walks::lowest(bench, set), k);
-    answers::expect_number(bench, 0);
-    bench[EXPECTED] = grid::form(2, place, cell);
-    bench[EXPECTED + 1] = grid::form(4, place, cell);
+    bench[CORNER] = grid::form(2, place, cell);
+    bench[CORNER + 1] = grid::form(4, place, cell);
+    answers::expect_row(bench, CORNER, if k < 8 { 0 } else { NO_CORNER });
 }
 
 // Whether a number of metres is exactly a quarter of a number of cells, which counts from LIFT; zero is positive zero.

@@ -77,11 +77,11 @@ fn bound_pieces(bench: &mut Bench, most: usize) -> usize
     requires { ⌜ 0 < most ⌝ }
 {
     let place = grid::place_at(start(get(bench, DRAWS, 6)), start(get(bench, DRAWS, 7)));
+    let a = piece(get(bench, DRAWS, 1));
+    let b = piece(get(bench, DRAWS, 3));
     let m = get(bench, DRAWS, 2) % most;
     let n = get(bench, DRAWS, 4) % most;
-    pieces::shorten(bench);
-    pieces::lengthen(bench, piece(get(bench, DRAWS, 1)), m);
-    pieces::lengthen(bench, piece(get(bench, DRAWS, 3)), n);
+    pieces::put_sides(bench, a, m, b, n);
     walks::bound_inside(bench, place, MIDDLE);
     place
 }

@@ -30,11 +30,11 @@ fn compare(bench: &mut Bench) {
     outlines::compare_back(bench);
     draws::draw(bench, ELEMENT);
     let second = operands::compare(bench, ELEMENT);
-    operations::compare_all(bench, first, second);
+    operations::compare_all(bench, if first == 0 { second } else { first });
 }
 
 fn main() {
-    let mut bench = [0; 9928];
+    let mut bench = [0; 9944];
     let mut k = 0;
     while k < PAIRS {
         bench[PAIR] = k;

@@ -6,6 +6,7 @@ use crate::bench::EXPECTED;
 use crate::bench::OPERANDS;
 use crate::bench::OUTLINE;
 use crate::bench::PAIR;
+use crate::bench::ZEROS;
 use crate::corners;
 use crate::outlines;
 use crate::sets;
@@ -40,7 +41,7 @@ fn expect(bench: &mut Bench, call: usize, set: usize)
 {
     match call {
         COUNT_CELLS => {
-            answers::expect_number(bench, 0);
+            answers::expect_row(bench, ZEROS, 0);
             bench[EXPECTED] = sets::count(bench, set);
         }
         TO_OUTLINE => {

@@ -3,6 +3,7 @@ ghost use Prim.Native.Nat.{_<_, _≤_};
 use crate::answers;
 use crate::answers::NOTHING_LEFT;
 use crate::answers::octagon;
+use crate::bench::BOUNDS;
 use crate::bench::Bench;
 use crate::bench::OPERANDS;
 use crate::bench::PLACES;
@@ -57,7 +58,7 @@ fn compare_result(bench: &mut Bench, call: usize, n: u32) -> usize
 
 // A pair with an operand that is refused: every operation is refused with the same number.
 fn compare_refused(bench: &mut Bench, number: usize) {
-    answers::expect_number(bench, number);
+    answers::expect_row(bench, BOUNDS, number);
     let mut call = DILATE;
     while call < CALLS {
         compare(bench, call, 1);
@@ -98,25 +99,18 @@ fn compare_folds(bench: &mut Bench, erodes: bool) {
         sets::fold(bench, erodes);
         n += 1;
     }
-    answers::expect_number(bench, answers::TOO_MANY_FOLDS);
+    answers::expect_row(bench, BOUNDS, answers::TOO_MANY_FOLDS);
     compare(bench, call, 65536);
 }
 
-// Every operation on a pair whose operands are accepted.
-fn compare_accepted(bench: &mut Bench) {
+// Every operation on a pair of which an operand is refused with a number, or both are accepted.
+pub fn compare_all(bench: &mut Bench, number: usize) {
+    if number != 0 {
+        compare_refused(bench, number);
+        return;
+    }
     compare_steps(bench, false);
     compare_steps(bench, true);
     compare_folds(bench, false);
     compare_folds(bench, true);
-}
-
-// Every operation on a pair whose operands are refused with two numbers, or accepted.
-pub fn compare_all(bench: &mut Bench, first: usize, second: usize) {
-    if first != 0 {
-        compare_refused(bench, first);
-    } else if second != 0 {
-        compare_refused(bench, second);
-    } else {
-        compare_accepted(bench);
-    }
 }

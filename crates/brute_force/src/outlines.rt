@@ -82,7 +82,7 @@ fn expect_inside(bench: &mut Bench) {
         sets::enumerate(bench, BOUNDS, RESULT, place);
         answers::expect(bench, RESULT, answers::NO_CELL);
     } else {
-        answers::expect_number(bench, answers::NOT_CLOSED);
+        answers::expect_row(bench, BOUNDS, answers::NOT_CLOSED);
     }
 }
 

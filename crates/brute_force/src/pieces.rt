@@ -49,29 +49,20 @@ fn times(n: usize, side: usize) -> usize {
     }
 }
 
-// Lengthens the outline by that of a piece, no, one or two times.
-pub fn lengthen(bench: &mut Bench, piece: usize, n: usize) {
+// Makes the outline that of two pieces together, each no, one or two times.
+pub fn put_sides(bench: &mut Bench, a: usize, m: usize, b: usize, n: usize) {
     let mut k = 0;
     while k < 8 {
-        let more = times(n, side(piece, k));
-        bench[OUTLINE + k] = std::num::wrapping_add_usize(bench[OUTLINE + k], more);
-        k += 1;
-    }
-}
-
-// Makes the outline one cell.
-pub fn shorten(bench: &mut Bench) {
-    let mut k = 0;
-    while k < 8 {
-        bench[OUTLINE + k] = 0;
+        let one = times(m, side(a, k));
+        let other = times(n, side(b, k));
+        bench[OUTLINE + k] = std::num::wrapping_add_usize(one, other);
         k += 1;
     }
 }
 
 // Makes the element a piece, and dilates the result by it n times.
 fn add_piece(bench: &mut Bench, piece: usize, n: u32) {
-    shorten(bench);
-    lengthen(bench, piece, 1);
+    put_sides(bench, piece, 1, piece, 0);
     walks::bound_inside(bench, grid::ORIGIN, grid::MIDDLE);
     sets::enumerate(bench, BOUNDS, ELEMENT, grid::ORIGIN);
     let mut k = 0;
@@ -123,7 +114,7 @@ fn put_start(bench: &mut Bench) {
 fn rebuilds(bench: &mut Bench, counts: [u32; 13]) -> bool {
     put_start(bench);
     add_pieces(bench, counts);
-    sets::is_result(bench, PLOT)
+    sets::is_within(bench, OPERANDS, RESULT)
 }
 
 // Whether a split has the start expected and rebuilds the plot's cells, or is refused as expected.

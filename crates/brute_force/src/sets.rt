@@ -20,7 +20,7 @@ const OF_NEXT: usize = SETS + NEXT * SPAN;
 
 // Whether a cell of the window at a place is within the bounds of a row.
 fn contains(bench: &Bench, row: usize, place: usize, cell: usize) -> bool
-    requires { ⌜ row < 320 ⌝ }
+    requires { ⌜ row < 336 ⌝ }
 {
     let mut k = 0;
     while k < 8 {
@@ -34,7 +34,7 @@ fn contains(bench: &Bench, row: usize, place: usize, cell: usize) -> bool
 
 // Makes a set the cells within the bounds of a row, in the window at a place.
 pub fn enumerate(bench: &mut Bench, row: usize, set: usize, place: usize)
-    requires { ⌜ row < 320 ⌝ }
+    requires { ⌜ row < 336 ⌝ }
     requires { ⌜ set < 4 ⌝ }
 {
     bench[PLACES + set] = place;
@@ -45,28 +45,15 @@ pub fn enumerate(bench: &mut Bench, row: usize, set: usize, place: usize)
     }
 }
 
-// Whether a set has just the cells within the bounds.
-pub fn is_within(bench: &Bench, set: usize) -> bool
+// Whether a set has just the cells within the bounds of a row.
+pub fn is_within(bench: &Bench, row: usize, set: usize) -> bool
+    requires { ⌜ row < 336 ⌝ }
     requires { ⌜ set < 4 ⌝ }
 {
     let place = bench[PLACES + set];
     let mut i = 0;
     while i < SIZE {
-        if bench[SETS + set * SPAN + i] != contains(bench, BOUNDS, place, i) as usize {
-            return false;
-        }
-        i += 1;
-    }
-    true
-}
-
-// Whether the result has the cells of another set.
-pub fn is_result(bench: &Bench, set: usize) -> bool
-    requires { ⌜ set < 4 ⌝ }
-{
-    let mut i = 0;
-    while i < SIZE {
-        if bench[SETS + set * SPAN + i] != bench[OF_RESULT + i] {
+        if bench[SETS + set * SPAN + i] != contains(bench, row, place, i) as usize {
             return false;
         }
         i += 1;
@@ -120,36 +107,18 @@ pub fn tighten(bench: &mut Bench, set: usize)
     }
 }
 
-// Adds the sums of a cell and every cell of the result.
-fn add_sums(bench: &mut Bench, by: usize) {
+// Every cell beside one of the element: a dilation has its sum if it is in the result, an erosion keeps it if its sum is.
+fn visit(bench: &mut Bench, erodes: bool, by: usize) {
     let mut i = 0;
     while i < SIZE {
-        if bench[OF_RESULT + i] == 1 {
+        if erodes {
+            let to = grid::sum(i, by);
+            bench[OF_NEXT + i] = bench[OF_NEXT + i] & bench[OF_RESULT + to];
+        } else if bench[OF_RESULT + i] == 1 {
             let to = grid::sum(i, by);
             bench[OF_NEXT + to] = 1;
         }
         i += 1;
-    }
-}
-
-// Keeps the positions whose sum with a cell is in the result.
-fn keep_fitting(bench: &mut Bench, by: usize) {
-    let mut i = 0;
-    while i < SIZE {
-        if bench[OF_NEXT + i] == 1 {
-            let to = grid::sum(i, by);
-            bench[OF_NEXT + i] = bench[OF_RESULT + to];
-        }
-        i += 1;
-    }
-}
-
-// What the element's cell makes of the next set.
-fn visit(bench: &mut Bench, erodes: bool, by: usize) {
-    if erodes {
-        keep_fitting(bench, by);
-    } else {
-        add_sums(bench, by);
     }
 }
 

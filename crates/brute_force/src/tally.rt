@@ -80,21 +80,17 @@ fn write_disagreement(call: usize, pair: usize) {
     io::write_all(STDOUT_FILENO, b"\n");
 }
 
-fn next(n: usize) -> usize {
-    std::num::wrapping_add_usize(n, 1)
-}
-
 // Notes whether the answer to a call agrees with what is expected.
 pub fn note(bench: &mut Bench, call: usize, agrees: bool)
     requires { ⌜ call < 12 ⌝ }
 {
     let row = call * 16;
     let answer = row + bench[NUMBER] % 8;
+    let agreed = row + AGREED;
     bench[row + DIGEST] = digested(bench, get(bench, row, DIGEST));
-    bench[answer] = next(get(bench, answer, 0));
-    if agrees {
-        bench[row + AGREED] = next(get(bench, row, AGREED));
-    } else {
+    bench[answer] = std::num::wrapping_add_usize(get(bench, answer, 0), 1);
+    bench[agreed] = std::num::wrapping_add_usize(get(bench, agreed, 0), agrees as usize);
+    if !agrees {
         write_disagreement(call, get(bench, PAIR, 0));
     }
 }

@@ -21,7 +21,7 @@ fn number_of(s: Set, empty: u32) -> u32 {
     }
     let mut k = 0;
     while k < 8 {
-        if LIMIT < sets::greatest(s, k) {
+        if LIMIT < sets::reach(s, k) {
             number = 2;
         }
         k += 2;
@@ -30,7 +30,7 @@ fn number_of(s: Set, empty: u32) -> u32 {
 }
 
 fn reaches(s: Set, k: usize, c: i32) -> bool {
-    sets::greatest(s, k) == lifted(c)
+    sets::reach(s, k) == lifted(c)
 }
 
 // Whether an octagon has the bounds that a set reaches.

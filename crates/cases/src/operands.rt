@@ -72,7 +72,7 @@ pub fn form(k: usize, x: u64, y: u64) -> u64 {
 }
 
 // Whether a cell is in an operand.
-pub fn contains(operand: usize, x: u64, y: u64) -> bool {
+pub fn is_cell(operand: usize, x: u64, y: u64) -> bool {
     let mut k = 0;
     while k < 8 {
         if lifted(bound(operand, k)) < form(k, x, y) {

@@ -80,7 +80,7 @@ pub fn answer(a: Answer) {
 pub fn reached(s: Set) {
     let mut k = 0;
     while k < 8 {
-        signed(sets::greatest(s, k));
+        signed(sets::reach(s, k));
         k += 1;
     }
     cells(sets::count(s));

@@ -1,6 +1,6 @@
 // Sets of cells in a window of 8 by 8 cells that stands anywhere on the map or off it, enumerated cell by cell.
-use crate::operands::contains;
 use crate::operands::form;
+use crate::operands::is_cell;
 use crate::signed::lifted;
 use crate::signed::minus;
 use crate::signed::plus;
@@ -36,7 +36,7 @@ pub fn cells(operand: usize, x: i32, y: i32) -> Set {
     };
     let mut k: u64 = 0;
     while k < 64 {
-        if contains(operand, column(s, k), row(s, k)) {
+        if is_cell(operand, column(s, k), row(s, k)) {
             s.bits = s.bits | 1 << k;
         }
         k += 1;
@@ -88,7 +88,7 @@ fn greater(a: u64, b: u64) -> u64 {
 }
 
 // The greatest that the left side of inequality k is on a set, or 0 where it has no cell: the bound that it reaches.
-pub fn greatest(s: Set, k: usize) -> u64 {
+pub fn reach(s: Set, k: usize) -> u64 {
     let mut most = 0;
     let mut i: u64 = 0;
     while i < 64 {

@@ -5,10 +5,10 @@ use Rattle.brute_force.proofs.sets.is_within.Statement.{statement}
 use Rattle.brute_force.proofs.sets.is_within.Tie as tie
 
 abbrev Inv-loop : tie.InvT-loop
-Inv-loop bench set place i₀ i = Unit {0}
+Inv-loop bench row set place i₀ i = Unit {0}
 
 abbrev μ-loop : tie.MeasureT-loop
-μ-loop bench set place i₀ i = 2401 - i
+μ-loop bench row set place i₀ i = 2401 - i
 
 pub is-within-spec : {M : Type 1} → statement M
 is-within-spec =

@@ -1,8 +1,8 @@
--- `greatest` is safe and ends: the measure is what is left of the turns. Assumes nothing.
+-- `reach` is safe and ends: the measure is what is left of the turns. Assumes nothing.
 use Prim.Native.Nat.{_-_}
 use borrow.Author.Needs.{needs}
-use Rattle.cases.proofs.sets.greatest.Statement.{statement}
-use Rattle.cases.proofs.sets.greatest.Tie as tie
+use Rattle.cases.proofs.sets.reach.Statement.{statement}
+use Rattle.cases.proofs.sets.reach.Tie as tie
 
 abbrev Inv-loop : tie.InvT-loop
 Inv-loop s k most₀ i₀ most i = Unit {0}
@@ -10,8 +10,8 @@ Inv-loop s k most₀ i₀ most i = Unit {0}
 abbrev μ-loop : tie.MeasureT-loop
 μ-loop s k most₀ i₀ most i = 64 - i
 
-pub greatest-spec : {M : Type 1} → statement M
-greatest-spec =
+pub reach-spec : {M : Type 1} → statement M
+reach-spec =
     tie.close
     (tie.spec
     Inv-loop
