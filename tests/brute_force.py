@@ -141,15 +141,16 @@ def outline(some):
 
 
 def inside(start, sides):
-    """The cells on or to the left of each side."""
+    """The cells on or to the left of each side. Those of the walks here are at most 10 from the start; 12 shows that no more are left out."""
     found = corners(start, sides)
     assert found[8] == start
-    about = square(start, 24)
-    return {
+    some = {
         (x, y)
-        for x, y in about
+        for x, y in square(start, 12)
         if all(dx * (y - v) - dy * (x - u) >= 0 for (dx, dy), (u, v) in zip(STEPS, found))
     }
+    assert all(max(abs(x - start[0]), abs(y - start[1])) <= 10 for x, y in some)
+    return some
 
 
 def outline_row(start, sides):
