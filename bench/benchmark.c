@@ -9,7 +9,7 @@
 enum { INPUTS = 512, TURNS = 4000, RECORDS = 2730, SHEET = 65536, SHEET_TURNS = 400 };
 
 static int32_t plots[INPUTS][8], elements[INPUTS][8];
-static uint8_t sheet[SHEET];
+static uint8_t sheet[SHEET], text[KX_TEXT];
 static size_t sheet_len;
 static volatile uint32_t sink;
 
@@ -51,7 +51,9 @@ static void fill_sheet(void) {
 typedef uint32_t of_one(const int32_t *, size_t, int32_t *, size_t);
 typedef uint32_t of_two(const int32_t *, size_t, const int32_t *, size_t, int32_t *, size_t);
 typedef uint32_t counter(const int32_t *, size_t, uint32_t *);
+typedef uint32_t splitter(const int32_t *, size_t, int32_t *, size_t, uint32_t *, size_t);
 typedef uint32_t checker(const uint8_t *, size_t, size_t, uint32_t *);
+typedef uint32_t lister(const uint8_t *, size_t, size_t, uint8_t *, size_t *);
 
 static double now(void) {
     struct timespec t;
@@ -88,6 +90,23 @@ static double time_two(of_two *f) {
     return (now() - at) / INPUTS;
 }
 
+static double time_split(splitter *f) {
+    int32_t start[2] = {0};
+    uint32_t counts[13] = {0}, sum = 0;
+    double at = now();
+    for (int i = 0; i < INPUTS; i++)
+        sum += f(plots[i], 8, start, 2, counts, 13) + counts[i % 13];
+    sink = sum;
+    return (now() - at) / INPUTS;
+}
+
+static double time_list(lister *f) {
+    size_t written = 0;
+    double at = now();
+    sink = f(sheet, SHEET, sheet_len, text, &written) + (uint32_t)written;
+    return now() - at;
+}
+
 static double time_check(checker *f) {
     uint32_t count = 0;
     double at = now();
@@ -121,6 +140,8 @@ int main(void) {
     COMPARE("erode", TURNS, time_two, kx_erode, plain_erode);
     COMPARE("opening", TURNS, time_two, kx_opening, plain_opening);
     COMPARE("closing", TURNS, time_two, kx_closing, plain_closing);
+    COMPARE("split", TURNS, time_split, kx_decompose, plain_decompose);
     COMPARE("sheet check", SHEET_TURNS, time_check, kx_sheet_check, plain_sheet_check);
+    COMPARE("listing", SHEET_TURNS, time_list, kx_list, plain_list);
     return 0;
 }

@@ -188,26 +188,3 @@ answer closing_of_cells(const cells *p, const cells *f) {
     eroded(&sum, f, &left);
     return place(&left, 5);
 }
-
-void walked(const int32_t start[2], const uint32_t sides[8], cells *out) {
-    static const int step[8][2] = {{1, 0}, {1, 1}, {0, 1}, {-1, 1}, {-1, 0}, {-1, -1}, {0, -1}, {1, -1}};
-    const int gap = WINDOW / 2;
-    int i = gap, j = 1;
-    memset(out, 0, sizeof *out);
-    out->x0 = (int64_t)start[0] - gap;
-    out->y0 = (int64_t)start[1] - 1;
-    out->row[j] |= (uint64_t)1 << i;
-    for (int k = 0; k < 8; k++)
-        for (uint32_t n = 0; n < sides[k]; n++) {
-            i += step[k][0];
-            j += step[k][1];
-            out->row[j] |= (uint64_t)1 << i;
-        }
-    /* each row is filled between its ends */
-    for (j = 0; j < WINDOW; j++)
-        if (out->row[j]) {
-            int low = __builtin_ctzll(out->row[j]), high = 63 - __builtin_clzll(out->row[j]);
-            for (i = low; i <= high; i++)
-                out->row[j] |= (uint64_t)1 << i;
-        }
-}

@@ -1,11 +1,13 @@
 /* What document 01 says of each call, worked out without the library's formulas: by sets of cells on a window of the grid
- * (cells.c), by searching the rows and columns of any eight bounds (search.c), and by bytes (sheets.c). */
+ * (cells.c), by walking outlines (walks.c), by searching the rows and columns of any eight bounds (search.c), by the rule of the
+ * pieces (splits.c), by bytes (sheets.c) and by printf (listings.c). */
 #ifndef ORACLE_H
 #define ORACLE_H
 #include <stddef.h>
 #include <stdint.h>
 
-enum { LIMIT = 16000, WRONG_LENGTH = 255 };
+/* Document 01's limits and lengths. */
+enum { LIMIT = 16000, FOLDS = 65535, SHEET = 65536, RECORD = 24, TRAILER = 16, PIECES = 13 };
 
 /* What a call answers: a number, and where it is 0 the normalised bounds. */
 typedef struct {
@@ -51,9 +53,16 @@ answer place(const cells *a, uint32_t none);
 answer dilation_of_cells(const cells *a, const cells *b);
 answer opening_of_cells(const cells *p, const cells *f);
 answer closing_of_cells(const cells *p, const cells *f);
+int same_cells(const cells *a, const cells *b);
+
+/* ---- by walking */
+
+/* 0, or the outline's refusal: 3, then 2. */
+uint32_t walk_refusal(const int32_t start[2], const uint32_t sides[8]);
+/* The bounds that the corners of a walk reach. */
+void bounds_of_walk(const int32_t start[2], const uint32_t sides[8], int64_t c[8]);
 /* The cells on and inside a walk of few steps that closes. */
 void walked(const int32_t start[2], const uint32_t sides[8], cells *out);
-int same_cells(const cells *a, const cells *b);
 
 /* ---- by search */
 
@@ -64,12 +73,22 @@ answer erosion_by_search(const int32_t p[8], const int32_t f[8], uint32_t n);
 void corners_by_search(const int64_t c[8], int64_t at[8][2]);
 uint64_t count_by_rows(const int64_t c[8]);
 
-/* ---- by bytes */
+/* ---- by the rule of the pieces */
 
-/* 0, or the outline's refusal: 3, then 2. */
-uint32_t walk_refusal(const int32_t start[2], const uint32_t sides[8]);
+/* The counts of the pieces that make an outline with these sides; how many choices of counts fit. */
+int split_by_rule(const uint32_t sides[8], uint32_t k[PIECES]);
+/* The start cell spread by all counted pieces, as sets. */
+void rebuilt(const int32_t start[2], const uint32_t k[PIECES], cells *out);
+
+/* ---- by bytes, and as text */
+
 uint32_t sheet_count(const uint8_t *s, size_t room, size_t len, uint32_t *count);
 plot record_in(const uint8_t *s, size_t len, uint32_t count, uint32_t k);
+/* What reading record k of `count` without a check refuses, or 0. */
+uint32_t read_refusal(size_t room, size_t len, uint32_t count, uint32_t k);
+uint32_t sheet_after_start(uint8_t *s, size_t room, size_t heading, size_t *len);
 uint32_t sheet_after_insert(uint8_t *s, size_t room, size_t len, const plot *p, size_t *grown);
+/* The listing of a sheet, and its length. */
+size_t listing_of(const uint8_t *s, size_t room, size_t len, char *text);
 
 #endif

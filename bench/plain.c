@@ -1,9 +1,6 @@
-/* The calls of bindings/koxirmeta.h in plain C, by the same formulas. */
+/* The calls on octagons of bindings/koxirmeta.h in plain C, by the same formulas. */
 #include "plain.h"
 #include <string.h>
-
-enum { LIMIT = 16000, SHEET_LIMIT = 65536, RECORD = 24, TRAILER = 16 };
-enum { NO_CELL = 1, OFF_MAP, NOT_CLOSED, OPPOSED_ROWS, NOTHING_LEFT, BAD_LENGTH = 8, BAD_TRAILER, BAD_DISTANCE, BAD_NUMBER, WRONG_LENGTH = 255 };
 
 static int64_t min(int64_t a, int64_t b) { return b < a ? b : a; }
 
@@ -40,12 +37,15 @@ static int is_rising(const int32_t c[8]) { return c[1] + c[5] <= 0 && 1 <= c[3] 
 
 static int is_falling(const int32_t c[8]) { return c[3] + c[7] <= 0 && 1 <= c[1] + c[5]; }
 
+/* The normal forms of both operands, or the number of the refusal: all of the first's come before the second's. */
+static uint32_t normalise_both(const int32_t p[8], const int32_t f[8], int32_t a[8], int32_t b[8]) {
+    uint32_t refused = normalise(p, a);
+    return refused ? refused : normalise(f, b);
+}
+
 static uint32_t dilate(const int32_t p[8], const int32_t f[8], int32_t out[8]) {
     int32_t a[8], b[8];
-    uint32_t refused = normalise(p, a);
-    if (refused)
-        return refused;
-    refused = normalise(f, b);
+    uint32_t refused = normalise_both(p, f, a, b);
     if (refused)
         return refused;
     if ((is_rising(a) && is_falling(b)) || (is_falling(a) && is_rising(b)))
@@ -60,10 +60,7 @@ static uint32_t dilate(const int32_t p[8], const int32_t f[8], int32_t out[8]) {
 
 static uint32_t erode(const int32_t p[8], const int32_t f[8], int32_t out[8]) {
     int32_t a[8], b[8];
-    uint32_t refused = normalise(p, a);
-    if (refused)
-        return refused;
-    refused = normalise(f, b);
+    uint32_t refused = normalise_both(p, f, a, b);
     if (refused)
         return refused;
     for (int k = 0; k < 8; k++)
@@ -80,16 +77,20 @@ uint32_t plain_normalise(const int32_t *bounds, size_t bounds_len, int32_t *out,
     return normalise(bounds, out);
 }
 
-uint32_t plain_count(const int32_t *bounds, size_t bounds_len, uint32_t *cells) {
+uint32_t plain_cells(const int32_t bounds[8], uint32_t *cells) {
     int32_t a[8];
-    if (bounds_len != 8)
-        return WRONG_LENGTH;
     uint32_t refused = normalise(bounds, a);
     if (refused)
         return refused;
     uint64_t height = (uint64_t)(a[0] + a[4] + 1), width = (uint64_t)(a[6] + a[2] + 1);
     *cells = (uint32_t)(height * width - triangle(a[0] + a[2] - a[1]) - triangle(a[2] + a[4] - a[3]) - triangle(a[4] + a[6] - a[5]) - triangle(a[6] + a[0] - a[7]));
     return 0;
+}
+
+uint32_t plain_count(const int32_t *bounds, size_t bounds_len, uint32_t *cells) {
+    if (bounds_len != 8)
+        return WRONG_LENGTH;
+    return plain_cells(bounds, cells);
 }
 
 static uint32_t opening(const int32_t p[8], const int32_t f[8], int32_t out[8]) {
@@ -117,40 +118,46 @@ ON_TWO(erode)
 ON_TWO(opening)
 ON_TWO(closing)
 
-static uint32_t u16_at(const uint8_t *s) { return (uint32_t)s[0] | (uint32_t)s[1] << 8; }
+static uint32_t smaller(uint32_t a, uint32_t b) { return a < b ? a : b; }
 
-static uint32_t u32_at(const uint8_t *s) { return u16_at(s) | u16_at(s + 2) << 16; }
+/* What a has above b, or nought. */
+static uint32_t surplus(uint32_t a, uint32_t b) { return a < b ? 0 : a - b; }
 
-/* The refusal of an outline: it does not close, or a corner leaves the map. */
-static uint32_t trace(int64_t i, int64_t j, const uint32_t n[8]) {
-    int64_t n0 = n[0], n1 = n[1], n2 = n[2], n3 = n[3], n4 = n[4], n5 = n[5], n6 = n[6], n7 = n[7];
-    if (n0 + n1 + n7 != n3 + n4 + n5 || n1 + n2 + n3 != n5 + n6 + n7)
-        return NOT_CLOSED;
-    int64_t right = i + n0 + n1, top = j + n1 + n2 + n3, left = right - n3 - n4 - n5;
-    return -j > LIMIT || right > LIMIT || top > LIMIT || -left > LIMIT ? OFF_MAP : 0;
+static void split(const uint32_t n[8], uint32_t k[13]) {
+    uint32_t r[8];
+    for (int m = 0; m < 8; m++)
+        r[m] = surplus(n[m], n[(m + 4) % 8]);
+    for (int m = 0; m < 4; m++)
+        k[m] = smaller(n[m], n[m + 4]);
+    k[4] = smaller(r[0], r[2]);
+    k[5] = smaller(r[0], r[6]);
+    k[6] = smaller(r[4], r[6]);
+    k[7] = smaller(r[2], r[4]);
+    k[8] = smaller(r[3], r[5]);
+    k[9] = smaller(r[1], r[7]);
+    k[10] = smaller(r[1], r[3]);
+    k[11] = smaller(r[5], r[7]);
+    k[12] = 0;
+    uint64_t others = (uint64_t)k[0] + k[2] + k[4] + k[5] + k[6] + k[7] + k[8] + k[9] + k[10] + k[11];
+    if (k[1] > 0 && k[3] > 0 && others == 0) {
+        k[1]--;
+        k[3]--;
+        k[12] = 1;
+    }
 }
 
-uint32_t plain_sheet_check(const uint8_t *sheet, size_t room, size_t len, uint32_t *count) {
-    if (len < TRAILER || len > SHEET_LIMIT || len > room)
-        return BAD_LENGTH;
-    const uint8_t *t = sheet + len - TRAILER;
-    if (u16_at(t + 8) != RECORD || u16_at(t + 10) != 0 || memcmp(t + 12, "GRND", 4) != 0)
-        return BAD_TRAILER;
-    uint64_t distance = u32_at(t), records = u32_at(t + 4);
-    if (distance != RECORD * records || len - TRAILER < distance)
-        return BAD_DISTANCE;
-    uint32_t before = 0;
-    for (const uint8_t *r = t - distance; r != t; r += RECORD) {
-        uint32_t number = u32_at(r), n[8];
-        if (number <= before)
-            return BAD_NUMBER;
-        for (int k = 0; k < 8; k++)
-            n[k] = u16_at(r + 8 + 2 * k);
-        uint32_t refused = trace((int16_t)u16_at(r + 4), (int16_t)u16_at(r + 6), n);
-        if (refused)
-            return refused;
-        before = number;
-    }
-    *count = (uint32_t)records;
+uint32_t plain_decompose(const int32_t *bounds, size_t bounds_len, int32_t *start, size_t start_len, uint32_t *counts, size_t counts_len) {
+    int32_t a[8];
+    uint32_t n[8];
+    if (bounds_len != 8 || start_len != 2 || counts_len != 13)
+        return WRONG_LENGTH;
+    uint32_t refused = normalise(bounds, a);
+    if (refused)
+        return refused;
+    for (int k = 0; k < 8; k++)
+        n[k] = (uint32_t)(a[(k + 7) % 8] + a[(k + 1) % 8] - (k % 2 ? a[k] : 2 * a[k]));
+    start[0] = a[0] - a[7];
+    start[1] = -a[0];
+    split(n, counts);
     return 0;
 }

@@ -5,17 +5,18 @@ set -eu
 here=$(cd "$(dirname "$0")" && pwd)
 root=$(dirname "$here")
 built=$root/target/bench
-archive=$root/target/staticlib/libkoxirmeta_c.a
 warn='-std=gnu11 -Wall -Wextra -Werror'
 mkdir -p "$built"
 [ $# -gt 0 ] || set -- compare benchmark
 
-(cd "$root" && rt staticlib koxirmeta_c) >"$built/staticlib.log" 2>&1 || { cat "$built/staticlib.log"; exit 1; }
+sh "$root/bindings/archive.sh"
 for program in "$@"; do
     case $program in
-    compare) gcc $warn -O3 -o "$built/compare" "$here/compare.c" "$here/cells.c" "$here/search.c" "$here/sheets.c" "$archive" ;;
-    benchmark) gcc $warn -O2 -o "$built/benchmark" "$here/benchmark.c" "$here/plain.c" "$archive" ;;
+    compare) set -- -O3 compare.c compare_octagons.c compare_pairs.c compare_lengths.c compare_sheets.c inputs.c cells.c walks.c search.c splits.c sheets.c listings.c ;;
+    benchmark) set -- -O2 benchmark.c plain.c plain_sheets.c ;;
     *) echo "run.sh: no program $program" >&2; exit 2 ;;
     esac
+    echo "run.sh: compiling and running $program"
+    (cd "$here" && gcc $warn "$@" -o "$built/$program" "$root/target/bindings/libkoxirmeta.a")
     "$built/$program"
 done

@@ -95,12 +95,19 @@ static answer of_bounds(const int32_t c[8]) {
 /* one line along a diagonal, and more than one cell on it */
 static int is_row(const int64_t c[8], int k) { return c[k] == -c[(k + 4) % 8] && c[2] != -c[6]; }
 
+/* The normal form of the first operand, with the first refusal of the two. */
+static answer of_both(const int32_t p[8], const int32_t f[8], answer *b) {
+    answer a = of_bounds(p);
+    *b = of_bounds(f);
+    if (!a.number)
+        a.number = b->number;
+    return a;
+}
+
 answer dilation_by_search(const int32_t p[8], const int32_t f[8], uint32_t n) {
-    answer a = of_bounds(p), b = of_bounds(f);
+    answer b, a = of_both(p, f, &b);
     if (a.number)
         return a;
-    if (b.number)
-        return b;
     if (n > 0 && ((is_row(a.c, 1) && is_row(b.c, 3)) || (is_row(a.c, 3) && is_row(b.c, 1)))) {
         a.number = 4;
         return a;
@@ -113,11 +120,9 @@ answer dilation_by_search(const int32_t p[8], const int32_t f[8], uint32_t n) {
 }
 
 answer erosion_by_search(const int32_t p[8], const int32_t f[8], uint32_t n) {
-    answer a = of_bounds(p), b = of_bounds(f);
+    answer b, a = of_both(p, f, &b);
     if (a.number)
         return a;
-    if (b.number)
-        return b;
     for (int k = 0; k < 8; k++)
         a.c[k] -= (int64_t)n * b.c[k];
     a = normal_by_search(a.c);

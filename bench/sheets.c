@@ -14,20 +14,6 @@ static void put_number(uint8_t *s, int width, uint32_t v) {
         s[i] = (uint8_t)(v >> (8 * i));
 }
 
-uint32_t walk_refusal(const int32_t start[2], const uint32_t sides[8]) {
-    static const int step[8][2] = {{1, 0}, {1, 1}, {0, 1}, {-1, 1}, {-1, 0}, {-1, -1}, {0, -1}, {1, -1}};
-    int64_t x = start[0], y = start[1];
-    int off = 0;
-    for (int k = 0; k < 8; k++) {
-        off |= x < -LIMIT || x > LIMIT || y < -LIMIT || y > LIMIT;
-        x += (int64_t)sides[k] * step[k][0];
-        y += (int64_t)sides[k] * step[k][1];
-    }
-    if (x != start[0] || y != start[1])
-        return 3;
-    return off ? 2 : 0;
-}
-
 static plot decoded(const uint8_t *s) {
     plot p;
     p.number = number_at(s, 4);
@@ -38,25 +24,35 @@ static plot decoded(const uint8_t *s) {
     return p;
 }
 
-static void encode(uint8_t *s, const plot *p) {
-    put_number(s, 4, p->number);
-    put_number(s + 4, 2, (uint32_t)p->start[0]);
-    put_number(s + 6, 2, (uint32_t)p->start[1]);
+static void encode_record(uint8_t *s, plot p) {
+    put_number(s, 4, p.number);
+    put_number(s + 4, 2, (uint32_t)p.start[0]);
+    put_number(s + 6, 2, (uint32_t)p.start[1]);
     for (int k = 0; k < 8; k++)
-        put_number(s + 8 + 2 * k, 2, p->sides[k]);
+        put_number(s + 8 + 2 * k, 2, p.sides[k]);
 }
 
-plot record_in(const uint8_t *s, size_t len, uint32_t count, uint32_t k) { return decoded(s + len - 16 - 24 * (size_t)(count - k)); }
+plot record_in(const uint8_t *s, size_t len, uint32_t count, uint32_t k) { return decoded(s + len - TRAILER - RECORD * (size_t)(count - k)); }
+
+static int is_bad_length(size_t room, size_t len) { return len < TRAILER || len > SHEET || len > room; }
+
+uint32_t read_refusal(size_t room, size_t len, uint32_t count, uint32_t k) {
+    if (is_bad_length(room, len))
+        return 8;
+    if (RECORD * (uint64_t)count > len - TRAILER)
+        return 10;
+    return k < count ? 0 : 13;
+}
 
 uint32_t sheet_count(const uint8_t *s, size_t room, size_t len, uint32_t *count) {
     uint32_t last = 0;
-    if (len < 16 || len > 65536 || len > room)
+    if (is_bad_length(room, len))
         return 8;
-    const uint8_t *t = s + len - 16;
-    if (memcmp(t + 12, "GRND", 4) || number_at(t + 8, 2) != 24 || t[10] || t[11])
+    const uint8_t *t = s + len - TRAILER;
+    if (memcmp(t + 12, "GRND", 4) || number_at(t + 8, 2) != RECORD || t[10] || t[11])
         return 9;
     uint64_t distance = number_at(t, 4), n = number_at(t + 4, 4);
-    if (distance != 24 * n || distance > len - 16)
+    if (distance != RECORD * n || distance > len - TRAILER)
         return 10;
     for (uint32_t k = 0; k < n; k++) {
         plot p = record_in(s, len, (uint32_t)n, k);
@@ -71,8 +67,27 @@ uint32_t sheet_count(const uint8_t *s, size_t room, size_t len, uint32_t *count)
     return 0;
 }
 
+/* The trailer of `count` records at t. */
+static void put_trailer(uint8_t *t, uint32_t count) {
+    put_number(t, 4, RECORD * count);
+    put_number(t + 4, 4, count);
+    put_number(t + 8, 2, RECORD);
+    put_number(t + 10, 2, 0);
+    memcpy(t + 12, "GRND", 4);
+}
+
+uint32_t sheet_after_start(uint8_t *s, size_t room, size_t heading, size_t *len) {
+    if (heading > SHEET - TRAILER)
+        return 8;
+    if (heading + TRAILER > room)
+        return 12;
+    put_trailer(s + heading, 0);
+    *len = heading + TRAILER;
+    return 0;
+}
+
 uint32_t sheet_after_insert(uint8_t *s, size_t room, size_t len, const plot *p, size_t *grown) {
-    static uint8_t fresh[65536 + 24];
+    static uint8_t fresh[SHEET + RECORD];
     uint32_t count = 0, refused = walk_refusal(p->start, p->sides), k;
     if (refused)
         return refused;
@@ -84,31 +99,17 @@ uint32_t sheet_after_insert(uint8_t *s, size_t room, size_t len, const plot *p, 
     for (k = 0; k < count; k++)
         if (record_in(s, len, count, k).number == p->number)
             return 11;
-    if (len + 24 > room || len + 24 > 65536)
+    if (len + RECORD > room || len + RECORD > SHEET)
         return 12;
-    size_t first = len - 16 - 24 * (size_t)count, at = first;
-    memcpy(fresh, s, len);
-    int placed = 0;
-    for (k = 0; k < count; k++) {
-        plot q = record_in(s, len, count, k);
-        if (!placed && p->number < q.number) {
-            encode(fresh + at, p);
-            at += 24;
-            placed = 1;
-        }
-        encode(fresh + at, &q);
-        at += 24;
-    }
-    if (!placed) {
-        encode(fresh + at, p);
-        at += 24;
-    }
-    put_number(fresh + at, 4, 24 * (count + 1));
-    put_number(fresh + at + 4, 4, count + 1);
-    put_number(fresh + at + 8, 2, 24);
-    put_number(fresh + at + 10, 2, 0);
-    memcpy(fresh + at + 12, "GRND", 4);
-    memcpy(s, fresh, at + 16);
-    *grown = at + 16;
+    size_t at = len - TRAILER - RECORD * (size_t)count;
+    memcpy(fresh, s, at);
+    for (k = 0; k < count && record_in(s, len, count, k).number < p->number; k++, at += RECORD)
+        encode_record(fresh + at, record_in(s, len, count, k));
+    encode_record(fresh + at, *p);
+    for (at += RECORD; k < count; k++, at += RECORD)
+        encode_record(fresh + at, record_in(s, len, count, k));
+    put_trailer(fresh + at, count + 1);
+    memcpy(s, fresh, at + TRAILER);
+    *grown = at + TRAILER;
     return 0;
 }

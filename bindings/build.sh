@@ -1,19 +1,27 @@
 #!/bin/sh
-# Builds the proved archive, then example.c and example.rs over it, runs both, and compares what each writes with expected.txt.
-# Needs rt, gcc and rustc on the PATH.
+# Builds the proved archive, then example.c and example.rs over it, runs them, and compares what each writes with expected.txt.
+# Needs rt, gcc and rustc (1.82 or newer) on the PATH.
 set -eu
 here=$(cd "$(dirname "$0")" && pwd)
-root=$(dirname "$here")
-built=$root/target/bindings
-archive=$root/target/staticlib
-mkdir -p "$built"
+built=$(dirname "$here")/target/bindings
 
-(cd "$root" && rt staticlib koxirmeta_c) >"$built/staticlib.log" 2>&1 || { cat "$built/staticlib.log"; exit 1; }
-gcc -std=c11 -O2 -Wall -Wextra -Wpedantic -Werror -o "$built/example_c" "$here/example.c" "$archive/libkoxirmeta_c.a"
-rustc --edition 2021 -O -D warnings -L "native=$archive" -l static=koxirmeta_c -o "$built/example_rust" "$here/example.rs"
+say() { echo "build.sh: $*"; }
 
-for program in example_c example_rust; do
-    "$built/$program" >"$built/$program.out"
-    diff -u "$here/expected.txt" "$built/$program.out"
-    echo "$program: as expected"
+matches() {
+    "$built/$1" >"$built/$1.out"
+    diff -u "$here/expected.txt" "$built/$1.out"
+    say "$1 wrote what expected.txt has"
+}
+
+sh "$here/archive.sh"
+
+say "compiling and running example.c"
+gcc -std=c11 -O2 -Wall -Wextra -Wpedantic -Werror -o "$built/example_c" "$here/example.c" "$built/libkoxirmeta.a"
+matches example_c
+
+for edition in 2021 2024; do
+    say "compiling koxirmeta.rs, and compiling and running example.rs, under Rust's edition $edition"
+    rustc --edition $edition --crate-type lib -D warnings -D missing_docs -o "$built/libkoxirmeta.rlib" "$here/koxirmeta.rs"
+    rustc --edition $edition -O -D warnings -L "native=$built" -l static=koxirmeta -o "$built/example_rust_$edition" "$here/example.rs"
+    matches example_rust_$edition
 done

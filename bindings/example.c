@@ -4,6 +4,7 @@
 #include <string.h>
 
 static const int32_t ORIGIN[8] = {0, 0, 0, 0, 0, 0, 0, 0};
+static const int32_t CROSSED[8] = {5, 0, 5, 1, 5, 0, 5, -1};
 static const uint32_t K2[8] = {0, 1, 0, 0, 0, 1, 0, 0};
 static const uint32_t K4[8] = {0, 0, 0, 1, 0, 0, 0, 1};
 static const uint32_t K13[8] = {0, 1, 0, 1, 0, 1, 0, 1};
@@ -55,7 +56,6 @@ static void show_call(const char *what, call *f, const int32_t p[8], const int32
 
 static void octagons(void) {
     static const int32_t slack[8] = {0, 0, 9, 1, 2, 9, 0, 0};
-    static const int32_t crossed[8] = {5, 0, 5, 1, 5, 0, 5, -1};
     static const uint32_t open[8] = {1, 0, 0, 0, 0, 0, 0, 0};
     int32_t block[8], k2[8], k4[8], k13[8], square[8], cell[8], other[8], spread[8] = {0};
     const int32_t zero[2] = {0, 0};
@@ -67,7 +67,7 @@ static void octagons(void) {
     octagon_at(0, 0, SQUARE, square);
     show_bounds("all bounds 0", ORIGIN);
     show_bounds("slack bounds", slack);
-    show_bounds("crossed bounds", crossed);
+    show_bounds("crossed bounds", CROSSED);
     show("n0=1 alone", kx_to_octagon(zero, 2, open, 8, spread, 8), spread);
     show_call("block spread by K13", kx_dilate, block, k13);
     kx_dilate(block, 8, k13, 8, spread, 8);
@@ -79,36 +79,48 @@ static void octagons(void) {
     show_call("block trimmed by 3 by 3", kx_erode, block, square);
     show_call("K2 spread by K4", kx_dilate, k2, k4);
     show_call("K13 opened by K4", kx_opening, k13, k4);
-    cell_at(-16000, 0, cell);
+    cell_at(-KX_MAP_LIMIT, 0, cell);
     cell_at(1, 0, other);
     show_call("(-16000,0) trimmed by (1,0)", kx_erode, cell, other);
-    cell_at(16000, 0, cell);
+    cell_at(KX_MAP_LIMIT, 0, cell);
     show_call("(16000,0) spread by (0,0)", kx_dilate, cell, ORIGIN);
     show_call("(16000,0) spread by (1,0)", kx_dilate, cell, other);
-    show("origin spread 65535 times", kx_dilate_n(ORIGIN, 8, ORIGIN, 8, 65535, spread, 8), spread);
-    show("origin spread 65536 times", kx_dilate_n(ORIGIN, 8, ORIGIN, 8, 65536, spread, 8), spread);
+    show("origin spread 65535 times", kx_dilate_n(ORIGIN, 8, ORIGIN, 8, KX_FOLD_LIMIT, spread, 8), spread);
+    show("origin spread 65536 times", kx_dilate_n(ORIGIN, 8, ORIGIN, 8, KX_FOLD_LIMIT + 1, spread, 8), spread);
     show("block trimmed twice by 3 by 1", kx_erode_n(block, 8, (const int32_t[8]){0, 2, 2, 2, 0, 0, 0, 0}, 8, 2, spread, 8), spread);
     printf("seven bounds: %u\n", kx_normalise(ORIGIN, 7, spread, 8));
 }
 
-static void listing(const uint8_t *sheet, size_t room, size_t len) {
-    uint32_t count = 0, number = 0, n[8] = {0}, cells = 0;
-    uint64_t total = 0;
-    int32_t start[2] = {0, 0}, bounds[8] = {0};
-    uint32_t answer = kx_sheet_check(sheet, room, len, &count);
+/* Writes a split, or its refusal. */
+static void show_split(const char *what, const int32_t bounds[8]) {
+    int32_t start[KX_START] = {0};
+    uint32_t k[KX_COUNTS] = {0}, answer = kx_decompose(bounds, KX_BOUNDS, start, KX_START, k, KX_COUNTS);
     if (answer != KX_ACCEPTED) {
-        printf("refused %u\n", answer);
+        printf("%s: refused %u\n", what, answer);
         return;
     }
-    printf("plot i j n0 n1 n2 n3 n4 n5 n6 n7 cells\n");
-    for (uint32_t k = 0; k < count; k++) {
-        kx_sheet_read(sheet, room, len, count, k, &number, start, 2, n, 8);
-        kx_to_octagon(start, 2, n, 8, bounds, 8);
-        kx_count(bounds, 8, &cells);
-        total += cells;
-        printf("%u %d %d %u %u %u %u %u %u %u %u %u\n", number, start[0], start[1], n[0], n[1], n[2], n[3], n[4], n[5], n[6], n[7], cells);
-    }
-    printf("plots %u cells %llu\n", count, (unsigned long long)total);
+    printf("%s: start %d %d counts", what, start[0], start[1]);
+    for (int p = 0; p < KX_COUNTS; p++)
+        printf(" %u", k[p]);
+    printf("\n");
+}
+
+static void splits(void) {
+    static const uint32_t diamond[8] = {0, 2, 0, 2, 0, 2, 0, 2}, skew[8] = {3, 0, 1, 1, 0, 2, 0, 0};
+    int32_t bounds[8];
+    octagon_at(0, 0, diamond, bounds);
+    show_split("split of sides 0 2 0 2 0 2 0 2", bounds);
+    octagon_at(0, 0, skew, bounds);
+    show_split("split of sides 3 0 1 1 0 2 0 0", bounds);
+    show_split("split of crossed bounds", CROSSED);
+}
+
+/* Writes the listing of a sheet as it is. */
+static void listing(const uint8_t *sheet, size_t room, size_t len) {
+    static uint8_t text[KX_TEXT];
+    size_t written = 0;
+    if (kx_list(sheet, room, len, text, &written) == KX_ACCEPTED)
+        fwrite(text, 1, written, stdout);
 }
 
 static void sheets(void) {
@@ -125,16 +137,45 @@ static void sheets(void) {
     printf(" length %zu\n", len);
     printf("insert 7 again: %u\n", kx_sheet_insert(sheet, 72, len, 7, start, 2, FIELD, 8, &len));
     printf("insert 8, no room: %u\n", kx_sheet_insert(sheet, 72, len, 8, start, 2, FIELD, 8, &len));
+    printf("check: %u", kx_sheet_check(sheet, 72, len, &number));
+    printf(" count %u\n", number);
     listing(sheet, 72, len);
     printf("record 1: %u", kx_sheet_fetch(sheet, 72, len, 1, &number, at, 2, n, 8));
     printf(" number %u\n", number);
     printf("record 2: %u\n", kx_sheet_fetch(sheet, 72, len, 2, &number, at, 2, n, 8));
+    printf("record 0 of 2: %u", kx_sheet_read(sheet, 72, len, 2, 0, &number, at, 2, n, 8));
+    printf(" number %u start %d %d\n", number, at[0], at[1]);
     sheet[len - 1] = 'E';
     listing(sheet, 72, len);
 }
 
+/* The constants: what is answered at a limit, and one past it. */
+static void limits(void) {
+    static uint8_t sheet[KX_SHEET_LIMIT];
+    static const uint32_t none[8] = {0};
+    const int32_t edge[2] = {KX_MAP_LIMIT, 0}, past[2] = {KX_MAP_LIMIT + 1, 0}, zero[2] = {0, 0};
+    int32_t out[8] = {0};
+    uint32_t count = 0;
+    size_t len = 0, grown = 0;
+    printf("map limit %d: %u", KX_MAP_LIMIT, kx_to_octagon(edge, 2, none, 8, out, 8));
+    printf(", one more: %u\n", kx_to_octagon(past, 2, none, 8, out, 8));
+    printf("fold limit %d: %u", KX_FOLD_LIMIT, kx_dilate_n(ORIGIN, 8, ORIGIN, 8, KX_FOLD_LIMIT, out, 8));
+    printf(", one more: %u\n", kx_dilate_n(ORIGIN, 8, ORIGIN, 8, KX_FOLD_LIMIT + 1, out, 8));
+    printf("sheet limit %d: %u", KX_SHEET_LIMIT, kx_sheet_start(sheet, sizeof sheet, KX_SHEET_LIMIT - KX_TRAILER, &len));
+    printf(", one more: %u", kx_sheet_start(sheet, sizeof sheet, KX_SHEET_LIMIT - KX_TRAILER + 1, &len));
+    printf(", length %zu\n", len);
+    kx_sheet_start(sheet, sizeof sheet, 0, &len);
+    printf("trailer %zu: %u", len, kx_sheet_check(sheet, sizeof sheet, KX_TRAILER, &count));
+    printf(", one less: %u\n", kx_sheet_check(sheet, sizeof sheet, KX_TRAILER - 1, &count));
+    printf("record %d: %u", KX_RECORD, kx_sheet_insert(sheet, KX_TRAILER + KX_RECORD, len, 1, zero, 2, none, 8, &grown));
+    printf(", one less: %u", kx_sheet_insert(sheet, KX_TRAILER + KX_RECORD + KX_RECORD - 1, grown, 2, zero, 2, none, 8, &grown));
+    printf(", length %zu\n", grown);
+}
+
 int main(void) {
     octagons();
+    splits();
     sheets();
+    limits();
     return 0;
 }

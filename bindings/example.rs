@@ -2,9 +2,10 @@
 mod koxirmeta;
 
 use koxirmeta as kx;
-use koxirmeta::{Bounds, Plot, Sides};
+use koxirmeta::{Bounds, Plot, Refusal, Sides};
 
 const ORIGIN: Bounds = [0; 8];
+const CROSSED: Bounds = [5, 0, 5, 1, 5, 0, 5, -1];
 const K2: Sides = [0, 1, 0, 0, 0, 1, 0, 0];
 const K4: Sides = [0, 0, 0, 1, 0, 0, 0, 1];
 const K13: Sides = [0, 1, 0, 1, 0, 1, 0, 1];
@@ -20,9 +21,17 @@ fn words<T: ToString>(numbers: &[T]) -> String {
     numbers.iter().map(T::to_string).collect::<Vec<_>>().join(" ")
 }
 
-fn show(what: &str, answer: Result<Bounds, u32>) {
+fn number<T>(answer: &Result<T, Refusal>) -> u32 {
+    answer.as_ref().err().map_or(0, |why| why.number())
+}
+
+fn refused(what: &str, why: Refusal) {
+    println!("{what}: refused {}", why.number());
+}
+
+fn show(what: &str, answer: Result<Bounds, Refusal>) {
     match answer {
-        Err(number) => println!("{what}: refused {number}"),
+        Err(why) => refused(what, why),
         Ok(b) => {
             let (start, sides) = kx::to_outline(&b).unwrap();
             println!("{what}: start {} sides {} cells {}", words(&start), words(&sides), kx::count(&b).unwrap());
@@ -32,7 +41,7 @@ fn show(what: &str, answer: Result<Bounds, u32>) {
 
 fn show_bounds(what: &str, bounds: &Bounds) {
     match kx::normalise(bounds) {
-        Err(number) => println!("{what}: refused {number}"),
+        Err(why) => refused(what, why),
         Ok(b) => println!("{what}: {} cells {}", words(&b), kx::count(&b).unwrap()),
     }
 }
@@ -42,7 +51,7 @@ fn octagons() {
     let (k2, k4, k13) = (octagon_at(0, 0, &K2), octagon_at(0, 0, &K4), octagon_at(0, 0, &K13));
     show_bounds("all bounds 0", &ORIGIN);
     show_bounds("slack bounds", &[0, 0, 9, 1, 2, 9, 0, 0]);
-    show_bounds("crossed bounds", &[5, 0, 5, 1, 5, 0, 5, -1]);
+    show_bounds("crossed bounds", &CROSSED);
     show("n0=1 alone", kx::to_octagon(&[0, 0], &[1, 0, 0, 0, 0, 0, 0, 0]));
     show("block spread by K13", kx::dilate(&block, &k13));
     let spread = kx::dilate(&block, &k13).unwrap();
@@ -51,34 +60,37 @@ fn octagons() {
     if let Ok([east, north]) = kx::vertex_place(&spread, 2) {
         println!("corner 2 of the spread: {east:.2} east {north:.2} north");
     }
-    println!("corner 8: refused {}", kx::vertex_place(&spread, 8).unwrap_err());
+    refused("corner 8", kx::vertex_place(&spread, 8).unwrap_err());
     show("block trimmed by 3 by 3", kx::erode(&block, &octagon_at(0, 0, &SQUARE)));
     show("K2 spread by K4", kx::dilate(&k2, &k4));
     show("K13 opened by K4", kx::opening(&k13, &k4));
-    let (west, east, one) = (octagon_at(-16000, 0, &[0; 8]), octagon_at(16000, 0, &[0; 8]), octagon_at(1, 0, &[0; 8]));
+    let (west, east, one) = (octagon_at(-kx::MAP_LIMIT, 0, &[0; 8]), octagon_at(kx::MAP_LIMIT, 0, &[0; 8]), octagon_at(1, 0, &[0; 8]));
     show("(-16000,0) trimmed by (1,0)", kx::erode(&west, &one));
     show("(16000,0) spread by (0,0)", kx::dilate(&east, &ORIGIN));
     show("(16000,0) spread by (1,0)", kx::dilate(&east, &one));
-    show("origin spread 65535 times", kx::dilate_n(&ORIGIN, &ORIGIN, 65535));
-    show("origin spread 65536 times", kx::dilate_n(&ORIGIN, &ORIGIN, 65536));
+    show("origin spread 65535 times", kx::dilate_n(&ORIGIN, &ORIGIN, kx::FOLD_LIMIT));
+    show("origin spread 65536 times", kx::dilate_n(&ORIGIN, &ORIGIN, kx::FOLD_LIMIT + 1));
     show("block trimmed twice by 3 by 1", kx::erode_n(&block, &[0, 2, 2, 2, 0, 0, 0, 0], 2));
-    println!("seven bounds: {}", kx::normalise(&ORIGIN[..7]).unwrap_err());
+    println!("seven bounds: {}", number(&kx::normalise(&ORIGIN[..7])));
+}
+
+fn show_split(what: &str, bounds: &Bounds) {
+    match kx::decompose(bounds) {
+        Err(why) => refused(what, why),
+        Ok((start, counts)) => println!("{what}: start {} counts {}", words(&start), words(&counts)),
+    }
+}
+
+fn splits() {
+    show_split("split of sides 0 2 0 2 0 2 0 2", &octagon_at(0, 0, &[0, 2, 0, 2, 0, 2, 0, 2]));
+    show_split("split of sides 3 0 1 1 0 2 0 0", &octagon_at(0, 0, &[3, 0, 1, 1, 0, 2, 0, 0]));
+    show_split("split of crossed bounds", &CROSSED);
 }
 
 fn listing(sheet: &[u8], len: usize) {
-    let count = match kx::sheet_check(sheet, len) {
-        Err(number) => return println!("refused {number}"),
-        Ok(count) => count,
-    };
-    let mut total = 0u64;
-    println!("plot i j n0 n1 n2 n3 n4 n5 n6 n7 cells");
-    for k in 0..count {
-        let p = kx::sheet_read(sheet, len, count, k).unwrap();
-        let cells = kx::count(&kx::to_octagon(&p.start, &p.sides).unwrap()).unwrap();
-        total += cells as u64;
-        println!("{} {} {} {cells}", p.number, words(&p.start), words(&p.sides));
-    }
-    println!("plots {count} cells {total}");
+    let mut text = vec![0; kx::TEXT];
+    let listed = kx::list(sheet, len, text.as_mut_slice().try_into().unwrap()).unwrap();
+    print!("{}", String::from_utf8_lossy(listed));
 }
 
 fn sheets() {
@@ -91,16 +103,52 @@ fn sheets() {
     println!("insert 11407: 0 length {len}");
     let len = kx::sheet_insert(&mut sheet, len, &field).unwrap();
     println!("insert 7: 0 length {len}");
-    println!("insert 7 again: {}", kx::sheet_insert(&mut sheet, len, &field).unwrap_err());
-    println!("insert 8, no room: {}", kx::sheet_insert(&mut sheet, len, &Plot { number: 8, ..field }).unwrap_err());
+    println!("insert 7 again: {}", number(&kx::sheet_insert(&mut sheet, len, &field)));
+    println!("insert 8, no room: {}", number(&kx::sheet_insert(&mut sheet, len, &Plot { number: 8, ..field })));
+    println!("check: 0 count {}", kx::sheet_check(&sheet, len).unwrap());
     listing(&sheet, len);
     println!("record 1: 0 number {}", kx::sheet_fetch(&sheet, len, 1).unwrap().number);
-    println!("record 2: {}", kx::sheet_fetch(&sheet, len, 2).unwrap_err());
+    println!("record 2: {}", number(&kx::sheet_fetch(&sheet, len, 2)));
+    let first = kx::sheet_read(&sheet, len, 2, 0).unwrap();
+    println!("record 0 of 2: 0 number {} start {}", first.number, words(&first.start));
     sheet[len - 1] = b'E';
     listing(&sheet, len);
 }
 
+/// The constants: what is answered at a limit, and one past it.
+fn limits() {
+    let mut sheet = vec![0; kx::SHEET_LIMIT];
+    let (map, folds, full) = (kx::MAP_LIMIT, kx::FOLD_LIMIT, kx::SHEET_LIMIT - kx::TRAILER);
+    let cell = |x| number(&kx::to_octagon(&[x, 0], &[0; 8]));
+    println!("map limit {map}: {}, one more: {}", cell(map), cell(map + 1));
+    let fold = |n| number(&kx::dilate_n(&ORIGIN, &ORIGIN, n));
+    println!("fold limit {folds}: {}, one more: {}", fold(folds), fold(folds + 1));
+    let len = kx::sheet_start(&mut sheet, full).unwrap();
+    println!("sheet limit {}: 0, one more: {}, length {len}", kx::SHEET_LIMIT, number(&kx::sheet_start(&mut sheet, full + 1)));
+    let len = kx::sheet_start(&mut sheet, 0).unwrap();
+    let check = |n| number(&kx::sheet_check(&sheet, n));
+    println!("trailer {len}: {}, one less: {}", check(kx::TRAILER), check(kx::TRAILER - 1));
+    let (two, plot) = (kx::TRAILER + kx::RECORD, Plot { number: 1, ..Plot::default() });
+    let grown = kx::sheet_insert(&mut sheet[..two], len, &plot).unwrap();
+    let next = kx::sheet_insert(&mut sheet[..two + kx::RECORD - 1], grown, &Plot { number: 2, ..plot });
+    println!("record {}: 0, one less: {}, length {grown}", kx::RECORD, number(&next));
+}
+
+/// Each number of a refusal has a name and words, and no other number has.
+fn refusals() {
+    for number in 1..=255 {
+        let why = Refusal::from_number(number);
+        let error: &dyn std::error::Error = &why;
+        assert_eq!(why.number(), number);
+        assert_eq!(why.name() != "Unknown", number <= 13 || number == 255);
+        assert!(error.to_string().starts_with(&format!("refused {number}: ")));
+    }
+}
+
 fn main() {
     octagons();
+    splits();
     sheets();
+    limits();
+    refusals();
 }

@@ -1,15 +1,16 @@
 /* Octagon plots on the quarter-metre grid, for C and C++.
  *
- * Every function is proved: crates/koxirmeta_c states what each answers and what it leaves in the memory that it was lent,
- * and Rattle's checker has accepted it. `rt staticlib koxirmeta_c` makes target/staticlib/libkoxirmeta_c.a.
+ * Every function is proved: crates/koxirmeta_c, and crates/listing_c for the listing, state what each answers and what it leaves in
+ * the memory that it was lent, and Rattle's checker has accepted it. bindings/archive.sh makes target/bindings/libkoxirmeta.a.
  *
  * ANSWERS. Each call returns KX_ACCEPTED (0), the number of a refusal of document 01, or KX_WRONG_LENGTH. Only an accepted call
  * writes: after any other answer, all that was lent holds what it held before.
  *
- * ARGUMENTS. A slice is passed as a pointer and then the number of its elements. A slice of the wrong length is answered
- * KX_WRONG_LENGTH before anything else is looked at. What no callee can test is the caller's to keep:
+ * ARGUMENTS. A slice is passed as a pointer and then the number of its elements. A call that is lent a slice of the wrong length
+ * answers KX_WRONG_LENGTH, whatever else is wrong. What no callee can test is the caller's to keep:
  *   - a pointer is not null, not even with the length 0, is aligned for its type, and points to as many elements as the length
  *     says, all of them initialised, those that are written to as well;
+ *   - the text of kx_list, an array of one length, is passed without it: KX_TEXT bytes, all of them initialised;
  *   - what is written to overlaps no other argument.
  *
  * OCTAGONS. Eight bounds c0 to c7, every value allowed: the cells (x, y) with -y <= c0, x-y <= c1, x <= c2, x+y <= c3, y <= c4,
@@ -27,76 +28,101 @@
 extern "C" {
 #endif
 
+/* The limits of document 01. */
+enum {
+    KX_MAP_LIMIT = 16000,    /* of a cell's coordinates, up and down */
+    KX_FOLD_LIMIT = 65535,   /* of n in an n-fold call */
+    KX_SHEET_LIMIT = 65536,  /* of a sheet's length, in bytes */
+    KX_RECORD = 24,          /* the length of a record, in bytes */
+    KX_TRAILER = 16          /* the length of a trailer, in bytes */
+};
+
+/* The lengths of the slices. */
+enum { KX_BOUNDS = 8, KX_START = 2, KX_SIDES = 8, KX_COUNTS = 13, KX_PLACE = 2 };
+
+/* The length of a listing's text: a line for each record that a sheet can hold, and two, each of at most KX_LINE bytes. */
+enum { KX_LINE = 252, KX_TEXT = KX_LINE * ((KX_SHEET_LIMIT - KX_TRAILER) / KX_RECORD + 2) };
+
 /* What a call returns. */
 enum {
     KX_ACCEPTED = 0,
     KX_NO_CELL = 1,          /* the bounds hold no cell */
-    KX_OFF_MAP = 2,          /* some cell lies off the map, 16,000 cells from its middle each way */
+    KX_OFF_MAP = 2,          /* some cell lies off the map: a coordinate is beyond KX_MAP_LIMIT */
     KX_NOT_CLOSED = 3,       /* the outline does not close */
     KX_OPPOSED_ROWS = 4,     /* the operands are opposed diagonal rows */
     KX_NOTHING_LEFT = 5,     /* no position fits */
-    KX_TOO_MANY_FOLDS = 6,   /* n is above 65,535 */
-    KX_NO_VERTEX = 7,        /* the corner number is above 7 */
-    KX_BAD_LENGTH = 8,       /* the sheet's length is below 16, above 65,536 or above the buffer's */
+    KX_TOO_MANY_FOLDS = 6,   /* n is above KX_FOLD_LIMIT */
+    KX_NO_VERTEX = 7,        /* the corner number is not below KX_SIDES */
+    KX_BAD_LENGTH = 8,       /* the sheet's length is below KX_TRAILER, above KX_SHEET_LIMIT or above the buffer's */
     KX_BAD_TRAILER = 9,      /* letters, record length or zero bytes are wrong */
-    KX_BAD_DISTANCE = 10,    /* the distance is not 24 times the count, or exceeds the length less 16 */
+    KX_BAD_DISTANCE = 10,    /* the distance is not KX_RECORD times the count, or exceeds the length less KX_TRAILER */
     KX_BAD_NUMBER = 11,      /* a plot number is 0, out of order or present */
     KX_NO_ROOM = 12,         /* the buffer or the sheet has no room */
     KX_NO_RECORD = 13,       /* there is no such record */
     KX_WRONG_LENGTH = 255    /* a slice of the wrong length: the caller's mistake, and no number of document 01 */
 };
 
-/* The lengths of the slices. */
-enum { KX_BOUNDS = 8, KX_START = 2, KX_SIDES = 8, KX_PLACE = 2 };
-
-/* The normal form of eight bounds, to out[8]. Refusals: 1, 2. */
+/* The normal form of eight bounds, to out[KX_BOUNDS]. Refusals: 1, 2. */
 uint32_t kx_normalise(const int32_t *bounds, size_t bounds_len, int32_t *out, size_t out_len);
 
 /* The number of cells, to *cells. Refusals: 1, 2. */
 uint32_t kx_count(const int32_t *bounds, size_t bounds_len, uint32_t *cells);
 
-/* Two operands of eight bounds each, the result to out[8]. Each operand's 1 and 2, the plot's first; then
+/* Two operands of eight bounds each, the result to out[KX_BOUNDS]. Each operand's 1 and 2, the plot's first; then
  *   dilate   (spread)  every sum of a cell of the plot and a cell of the element: 4, then 2 for the result
  *   erode    (trim)    the positions at which the whole element stands inside the plot: 5, then 2 for the result
- *   opening            the erosion, and where that is accepted the dilation of what it left: the refusals of each
- *   closing            the dilation, and where that is accepted the erosion of what it gave: the refusals of each */
+ *   opening            the erosion, and where that is accepted the dilation of what it left: the erosion's 5 and 2, then 4
+ *   closing            the dilation, and where that is accepted the erosion of what it gave: the dilation's 4 and 2, never 5 */
 uint32_t kx_dilate(const int32_t *plot, size_t plot_len, const int32_t *element, size_t element_len, int32_t *out, size_t out_len);
 uint32_t kx_erode(const int32_t *plot, size_t plot_len, const int32_t *element, size_t element_len, int32_t *out, size_t out_len);
 uint32_t kx_opening(const int32_t *plot, size_t plot_len, const int32_t *element, size_t element_len, int32_t *out, size_t out_len);
 uint32_t kx_closing(const int32_t *plot, size_t plot_len, const int32_t *element, size_t element_len, int32_t *out, size_t out_len);
 
-/* n times by the same element, in constant time. 6 before all else; then as above, judged on the final set only. With n = 0
- * both give the plot, normalised. */
+/* n times by the same element, in constant time. 6 before all else, then each operand's 1 and 2; then
+ *   dilate_n           4 where n is at least 1, then 2 for the final set
+ *   erode_n            5, then 2, both for the final set
+ * With n = 0 both give the plot, normalised. */
 uint32_t kx_dilate_n(const int32_t *plot, size_t plot_len, const int32_t *element, size_t element_len, uint32_t n, int32_t *out, size_t out_len);
 uint32_t kx_erode_n(const int32_t *plot, size_t plot_len, const int32_t *element, size_t element_len, uint32_t n, int32_t *out, size_t out_len);
 
-/* The octagon of the outline start[2], sides[8], to out[8]. Refusals: 3, 2. */
+/* The octagon of the outline start[KX_START], sides[KX_SIDES], to out[KX_BOUNDS]. Refusals: 3, 2. */
 uint32_t kx_to_octagon(const int32_t *start, size_t start_len, const uint32_t *sides, size_t sides_len, int32_t *out, size_t out_len);
 
-/* The outline of eight bounds, to start[2] and sides[8]. Refusals: 1, 2. */
+/* The outline of eight bounds, to start[KX_START] and sides[KX_SIDES]. Refusals: 1, 2. */
 uint32_t kx_to_outline(const int32_t *bounds, size_t bounds_len, int32_t *start, size_t start_len, uint32_t *sides, size_t sides_len);
 
-/* Corner k of eight bounds in metres, east and north, to place[2]: exactly a quarter of the cell numbers. Refusals: 1, 2, 7. */
+/* Corner k of eight bounds in metres, east and north, to place[KX_PLACE]: exactly a quarter of the cell numbers. Refusals: 1, 2, 7. */
 uint32_t kx_vertex_place(const int32_t *bounds, size_t bounds_len, uint32_t k, double *place, size_t place_len);
 
-/* A sheet stands in the first len of the sheet_len bytes of a buffer: a heading, records of 24 bytes and a trailer of 16. */
+/* The split of eight bounds: the start cell to start[KX_START], and how many there are of the pieces K1 to K13 to
+ * counts[KX_COUNTS]. Refusals: 1, 2. */
+uint32_t kx_decompose(const int32_t *bounds, size_t bounds_len, int32_t *start, size_t start_len, uint32_t *counts, size_t counts_len);
+
+/* A sheet stands in the first len of the sheet_len bytes of a buffer: a heading, records of KX_RECORD bytes each and a trailer
+ * of KX_TRAILER. */
 
 /* How many records a sheet has, to *count. Refusals: 8, 9, 10; then for each record 11, 3, 2. */
 uint32_t kx_sheet_check(const uint8_t *sheet, size_t sheet_len, size_t len, uint32_t *count);
 
-/* Record k, counted from 0: its plot number to *number, its outline to start[2] and sides[8]. The check's refusals, then 13. */
+/* Record k, counted from 0: its plot number to *number, its outline to start[KX_START] and sides[KX_SIDES]. The check's
+ * refusals, then 13 when k is not below the count. */
 uint32_t kx_sheet_fetch(const uint8_t *sheet, size_t sheet_len, size_t len, uint32_t k, uint32_t *number, int32_t *start, size_t start_len, uint32_t *sides, size_t sides_len);
 
-/* The same in constant time, of a sheet in which kx_sheet_check has counted `count` records. Refusal: 13, also where so many
- * records do not lie in the buffer. */
+/* The same in constant time, of a sheet in which kx_sheet_check has counted `count` records. Refusals: 8 for the length; 10 when
+ * `count` records and a trailer are longer than it; then 13 when k is not below `count`. */
 uint32_t kx_sheet_read(const uint8_t *sheet, size_t sheet_len, size_t len, uint32_t count, uint32_t k, uint32_t *number, int32_t *start, size_t start_len, uint32_t *sides, size_t sides_len);
 
-/* Writes the trailer of a sheet of no records after `heading` bytes, and its length to *len. Refusals: 8, 12. */
+/* Writes the trailer of a sheet of no records after `heading` bytes, and its length to *len. Refusals: 8 when that length is above
+ * KX_SHEET_LIMIT, then 12 when it is above the buffer's. */
 uint32_t kx_sheet_start(uint8_t *sheet, size_t sheet_len, size_t heading, size_t *len);
 
-/* Inserts a plot by its number, and writes the new length to *grown. Refusals: the outline's 3 and 2, the check's, 11, 12.
- * Heading and bytes past the new length keep their values. */
+/* Inserts a plot by its number, and writes the new length to *grown. Refusals: first the outline's 3 and 2, then the check's, 11
+ * and 12. Heading and bytes past the new length keep their values. */
 uint32_t kx_sheet_insert(uint8_t *sheet, size_t sheet_len, size_t len, uint32_t number, const int32_t *start, size_t start_len, const uint32_t *sides, size_t sides_len, size_t *grown);
+
+/* The listing of a sheet, to the start of text[KX_TEXT], and its length to *written; the bytes past it keep their values. It is
+ * always accepted: the listing of a sheet that kx_sheet_check refuses is the one line `refused`, a space and the number. */
+uint32_t kx_list(const uint8_t *sheet, size_t sheet_len, size_t len, uint8_t text[KX_TEXT], size_t *written);
 
 #ifdef __cplusplus
 }

@@ -1,20 +1,146 @@
 //! Octagon plots on the quarter-metre grid, for Rust: safe functions over the calls that koxirmeta.h describes.
-//! Each answers what was written, or the number of the refusal.
+//!
+//! Each function answers what the call wrote, or the [`Refusal`]. It compiles under the editions 2021 and 2024, with Rust 1.82 or
+//! newer, and links with `libkoxirmeta.a`, which archive.sh makes.
+#![warn(missing_docs)]
 
+use std::error::Error;
+use std::fmt;
+
+/// How far a cell's coordinates go from the middle of the map, up and down.
+pub const MAP_LIMIT: i32 = 16000;
+/// The most folds of one n-fold call.
+pub const FOLD_LIMIT: u32 = 65535;
+/// The length of the longest sheet, in bytes.
+pub const SHEET_LIMIT: usize = 65536;
+/// The length of a record of a sheet, in bytes.
+pub const RECORD: usize = 24;
+/// The length of the trailer of a sheet, in bytes.
+pub const TRAILER: usize = 16;
+/// The length of the longest line of a listing, in bytes.
+pub const LINE: usize = 252;
+/// The length of the text that a listing is written to, in bytes: a line for each record that a sheet can hold, and two.
+pub const TEXT: usize = LINE * ((SHEET_LIMIT - TRAILER) / RECORD + 2);
+
+/// An octagon: the cells (x, y) with -y <= c0, x-y <= c1, x <= c2, x+y <= c3, y <= c4, -x+y <= c5, -x <= c6 and -x-y <= c7.
 pub type Bounds = [i32; 8];
+/// The start of an outline: its lowest corner, and of the lowest the leftmost.
 pub type Start = [i32; 2];
+/// The side lengths of an outline, counter-clockwise from the step (1, 0).
 pub type Sides = [u32; 8];
+/// How many there are of the pieces K1 to K13.
+pub type Counts = [u32; 13];
+/// A place on the ground in metres, east and north.
+pub type Place = [f64; 2];
 
 /// A record of a sheet: a plot number and an outline.
 #[derive(Clone, Copy, Debug, Default, PartialEq, Eq)]
 pub struct Plot {
+    /// The plot number.
     pub number: u32,
+    /// The start of the outline.
     pub start: Start,
+    /// The side lengths of the outline.
     pub sides: Sides,
 }
 
+macro_rules! refusals {
+    ($($(#[$attribute:meta])* $name:ident = $number:literal,)*) => {
+        /// Why a call was refused: a number of document 01, or the caller's mistake.
+        #[non_exhaustive]
+        #[derive(Clone, Copy, Debug, PartialEq, Eq, Hash)]
+        pub enum Refusal {
+            $($(#[$attribute])* $name,)*
+            /// A number that these functions do not know: that of another version of the library.
+            Unknown(u32),
+        }
+
+        impl Refusal {
+            /// The refusal with this number.
+            pub fn from_number(number: u32) -> Refusal {
+                match number {
+                    $($number => Refusal::$name,)*
+                    _ => Refusal::Unknown(number),
+                }
+            }
+
+            /// Its number.
+            pub fn number(self) -> u32 {
+                match self {
+                    $(Refusal::$name => $number,)*
+                    Refusal::Unknown(number) => number,
+                }
+            }
+
+            /// Its name.
+            pub fn name(self) -> &'static str {
+                match self {
+                    $(Refusal::$name => stringify!($name),)*
+                    Refusal::Unknown(_) => "Unknown",
+                }
+            }
+        }
+    };
+}
+
+refusals! {
+    /// The bounds hold no cell.
+    NoCell = 1,
+    /// Some cell lies off the map: a coordinate is beyond [`MAP_LIMIT`].
+    OffMap = 2,
+    /// The outline does not close.
+    NotClosed = 3,
+    /// The operands are opposed diagonal rows.
+    OpposedRows = 4,
+    /// No position fits.
+    NothingLeft = 5,
+    /// n is above [`FOLD_LIMIT`].
+    TooManyFolds = 6,
+    /// The corner number is above 7.
+    NoVertex = 7,
+    /// The sheet's length is below [`TRAILER`], above [`SHEET_LIMIT`] or above the buffer's.
+    BadLength = 8,
+    /// Letters, record length or zero bytes of the trailer are wrong.
+    BadTrailer = 9,
+    /// The distance is not [`RECORD`] times the count, or exceeds the length less [`TRAILER`].
+    BadDistance = 10,
+    /// A plot number is 0, out of order or present.
+    BadNumber = 11,
+    /// The buffer or the sheet has no room.
+    NoRoom = 12,
+    /// There is no such record.
+    NoRecord = 13,
+    /// A slice of the wrong length: the caller's mistake, and no number of document 01.
+    WrongLength = 255,
+}
+
+impl fmt::Display for Refusal {
+    fn fmt(&self, f: &mut fmt::Formatter<'_>) -> fmt::Result {
+        write!(f, "refused {}: ", self.number())?;
+        match self {
+            Refusal::NoCell => write!(f, "the bounds hold no cell"),
+            Refusal::OffMap => write!(f, "some cell lies off the map, a coordinate beyond {MAP_LIMIT} either way"),
+            Refusal::NotClosed => write!(f, "the outline does not close"),
+            Refusal::OpposedRows => write!(f, "the operands are opposed diagonal rows"),
+            Refusal::NothingLeft => write!(f, "no position fits"),
+            Refusal::TooManyFolds => write!(f, "more than {FOLD_LIMIT} folds"),
+            Refusal::NoVertex => write!(f, "the corner number is above 7"),
+            Refusal::BadLength => write!(f, "the length of the sheet is below {TRAILER}, above {SHEET_LIMIT} or above the buffer's"),
+            Refusal::BadTrailer => write!(f, "letters, record length or zero bytes of the trailer are wrong"),
+            Refusal::BadDistance => write!(f, "the distance is not {RECORD} times the count, or exceeds the length less {TRAILER}"),
+            Refusal::BadNumber => write!(f, "a plot number is 0, out of order or present"),
+            Refusal::NoRoom => write!(f, "the buffer or the sheet has no room"),
+            Refusal::NoRecord => write!(f, "there is no such record"),
+            Refusal::WrongLength => write!(f, "a slice has the wrong length"),
+            Refusal::Unknown(_) => write!(f, "a number of another version of the library"),
+        }
+    }
+}
+
+impl Error for Refusal {}
+
 mod calls {
-    extern "C" {
+    unsafe extern "C" {
         pub fn kx_normalise(bounds: *const i32, bounds_len: usize, out: *mut i32, out_len: usize) -> u32;
         pub fn kx_count(bounds: *const i32, bounds_len: usize, cells: *mut u32) -> u32;
         pub fn kx_dilate(p: *const i32, p_len: usize, f: *const i32, f_len: usize, out: *mut i32, out_len: usize) -> u32;
@@ -26,108 +152,154 @@ mod calls {
         pub fn kx_to_octagon(start: *const i32, start_len: usize, sides: *const u32, sides_len: usize, out: *mut i32, out_len: usize) -> u32;
         pub fn kx_to_outline(bounds: *const i32, bounds_len: usize, start: *mut i32, start_len: usize, sides: *mut u32, sides_len: usize) -> u32;
         pub fn kx_vertex_place(bounds: *const i32, bounds_len: usize, k: u32, place: *mut f64, place_len: usize) -> u32;
+        pub fn kx_decompose(bounds: *const i32, bounds_len: usize, start: *mut i32, start_len: usize, counts: *mut u32, counts_len: usize) -> u32;
         pub fn kx_sheet_check(sheet: *const u8, sheet_len: usize, len: usize, count: *mut u32) -> u32;
         pub fn kx_sheet_fetch(sheet: *const u8, sheet_len: usize, len: usize, k: u32, number: *mut u32, start: *mut i32, start_len: usize, sides: *mut u32, sides_len: usize) -> u32;
         pub fn kx_sheet_read(sheet: *const u8, sheet_len: usize, len: usize, count: u32, k: u32, number: *mut u32, start: *mut i32, start_len: usize, sides: *mut u32, sides_len: usize) -> u32;
         pub fn kx_sheet_start(sheet: *mut u8, sheet_len: usize, heading: usize, len: *mut usize) -> u32;
         pub fn kx_sheet_insert(sheet: *mut u8, sheet_len: usize, len: usize, number: u32, start: *const i32, start_len: usize, sides: *const u32, sides_len: usize, grown: *mut usize) -> u32;
+        pub fn kx_list(sheet: *const u8, sheet_len: usize, len: usize, text: *mut [u8; super::TEXT], written: *mut usize) -> u32;
     }
 }
 
-fn answer<T>(number: u32, value: T) -> Result<T, u32> {
-    if number == 0 { Ok(value) } else { Err(number) }
+/// What a call wrote to a fresh value, or the refusal that it answered.
+fn answer<T: Default>(call: impl FnOnce(&mut T) -> u32) -> Result<T, Refusal> {
+    let mut value = T::default();
+    match call(&mut value) {
+        0 => Ok(value),
+        number => Err(Refusal::from_number(number)),
+    }
 }
 
-/// The normal form of eight bounds. Any slice may be handed in: one of another length is refused with 255.
-pub fn normalise(bounds: &[i32]) -> Result<Bounds, u32> {
-    let mut out = [0; 8];
-    // SAFETY: both slices are whole, and `out` is no other argument. So it is in every call below.
-    let n = unsafe { calls::kx_normalise(bounds.as_ptr(), bounds.len(), out.as_mut_ptr(), 8) };
-    answer(n, out)
+// SAFETY, of every call below: each pointer is to a whole slice or array, beside its length, or to one whole value; and what is
+// written to is a fresh value or a unique reference, and so no other argument.
+
+/// The normal form of eight bounds. A slice of another length is refused with [`Refusal::WrongLength`].
+///
+/// Refusals: `NoCell`, `OffMap`.
+pub fn normalise(bounds: &[i32]) -> Result<Bounds, Refusal> {
+    answer(|out: &mut Bounds| unsafe { calls::kx_normalise(bounds.as_ptr(), bounds.len(), out.as_mut_ptr(), out.len()) })
 }
 
-pub fn count(bounds: &Bounds) -> Result<u32, u32> {
-    let mut cells = 0;
-    let n = unsafe { calls::kx_count(bounds.as_ptr(), 8, &mut cells) };
-    answer(n, cells)
+/// The number of cells. Refusals: `NoCell`, `OffMap`.
+pub fn count(bounds: &Bounds) -> Result<u32, Refusal> {
+    answer(|cells: &mut u32| unsafe { calls::kx_count(bounds.as_ptr(), bounds.len(), cells) })
 }
 
 macro_rules! of_two {
-    ($name:ident, $call:ident) => {
-        pub fn $name(plot: &Bounds, element: &Bounds) -> Result<Bounds, u32> {
-            let mut out = [0; 8];
-            let n = unsafe { calls::$call(plot.as_ptr(), 8, element.as_ptr(), 8, out.as_mut_ptr(), 8) };
-            answer(n, out)
+    ($(#[$attribute:meta])* $name:ident, $call:ident $(, $times:ident)?) => {
+        $(#[$attribute])*
+        pub fn $name(plot: &Bounds, element: &Bounds $(, $times: u32)?) -> Result<Bounds, Refusal> {
+            answer(|out: &mut Bounds| unsafe {
+                calls::$call(plot.as_ptr(), plot.len(), element.as_ptr(), element.len(), $($times,)? out.as_mut_ptr(), out.len())
+            })
         }
     };
 }
 
-of_two!(dilate, kx_dilate);
-of_two!(erode, kx_erode);
-of_two!(opening, kx_opening);
-of_two!(closing, kx_closing);
-
-macro_rules! n_fold {
-    ($name:ident, $call:ident) => {
-        pub fn $name(plot: &Bounds, element: &Bounds, times: u32) -> Result<Bounds, u32> {
-            let mut out = [0; 8];
-            let n = unsafe { calls::$call(plot.as_ptr(), 8, element.as_ptr(), 8, times, out.as_mut_ptr(), 8) };
-            answer(n, out)
-        }
-    };
+of_two! {
+    /// Every sum of a cell of the plot and a cell of the element (document 01's spread).
+    ///
+    /// Refusals: the plot's `NoCell` and `OffMap`, the element's, `OpposedRows`, and `OffMap` for the result.
+    dilate, kx_dilate
+}
+of_two! {
+    /// The positions at which the whole element stands inside the plot (document 01's trim).
+    ///
+    /// Refusals: the plot's `NoCell` and `OffMap`, the element's, `NothingLeft`, and `OffMap` for the result.
+    erode, kx_erode
+}
+of_two! {
+    /// The erosion, and where that is accepted the dilation of what it left.
+    ///
+    /// Refusals: those of the erosion, then `OpposedRows`.
+    opening, kx_opening
+}
+of_two! {
+    /// The dilation, and where that is accepted the erosion of what it gave.
+    ///
+    /// Refusals: those of the dilation, and no other.
+    closing, kx_closing
+}
+of_two! {
+    /// The dilation n times by the same element. Refusals: `TooManyFolds`, each operand's; then
+    /// `OpposedRows` where n is at least 1, and `OffMap` for the final set.
+    dilate_n, kx_dilate_n, n
+}
+of_two! {
+    /// The erosion n times by the same element. Refusals: `TooManyFolds`, each operand's; then
+    /// `NothingLeft` and `OffMap`, both for the final set.
+    erode_n, kx_erode_n, n
 }
 
-n_fold!(dilate_n, kx_dilate_n);
-n_fold!(erode_n, kx_erode_n);
-
-pub fn to_octagon(start: &Start, sides: &Sides) -> Result<Bounds, u32> {
-    let mut out = [0; 8];
-    let n = unsafe { calls::kx_to_octagon(start.as_ptr(), 2, sides.as_ptr(), 8, out.as_mut_ptr(), 8) };
-    answer(n, out)
+/// The octagon of an outline. Refusals: `NotClosed`, `OffMap`.
+pub fn to_octagon(start: &Start, sides: &Sides) -> Result<Bounds, Refusal> {
+    answer(|out: &mut Bounds| unsafe { calls::kx_to_octagon(start.as_ptr(), start.len(), sides.as_ptr(), sides.len(), out.as_mut_ptr(), out.len()) })
 }
 
-pub fn to_outline(bounds: &Bounds) -> Result<(Start, Sides), u32> {
-    let (mut start, mut sides) = ([0; 2], [0; 8]);
-    let n = unsafe { calls::kx_to_outline(bounds.as_ptr(), 8, start.as_mut_ptr(), 2, sides.as_mut_ptr(), 8) };
-    answer(n, (start, sides))
+/// The outline of an octagon. Refusals: `NoCell`, `OffMap`.
+pub fn to_outline(bounds: &Bounds) -> Result<(Start, Sides), Refusal> {
+    answer(|(start, sides): &mut (Start, Sides)| unsafe {
+        calls::kx_to_outline(bounds.as_ptr(), bounds.len(), start.as_mut_ptr(), start.len(), sides.as_mut_ptr(), sides.len())
+    })
 }
 
-/// Corner k in metres, east and north.
-pub fn vertex_place(bounds: &Bounds, k: u32) -> Result<[f64; 2], u32> {
-    let mut place = [0.0; 2];
-    let n = unsafe { calls::kx_vertex_place(bounds.as_ptr(), 8, k, place.as_mut_ptr(), 2) };
-    answer(n, place)
+/// Corner k in metres, exactly a quarter of its cell numbers. Refusals: `NoCell`, `OffMap`, `NoVertex`.
+pub fn vertex_place(bounds: &Bounds, k: u32) -> Result<Place, Refusal> {
+    answer(|place: &mut Place| unsafe { calls::kx_vertex_place(bounds.as_ptr(), bounds.len(), k, place.as_mut_ptr(), place.len()) })
 }
 
-/// The record count of the sheet in the first `len` bytes.
-pub fn sheet_check(sheet: &[u8], len: usize) -> Result<u32, u32> {
-    let mut count = 0;
-    let n = unsafe { calls::kx_sheet_check(sheet.as_ptr(), sheet.len(), len, &mut count) };
-    answer(n, count)
+/// The split into thirteen pieces: the start cell, and how many there are of each. Refusals: `NoCell`, `OffMap`.
+pub fn decompose(bounds: &Bounds) -> Result<(Start, Counts), Refusal> {
+    answer(|(start, counts): &mut (Start, Counts)| unsafe {
+        calls::kx_decompose(bounds.as_ptr(), bounds.len(), start.as_mut_ptr(), start.len(), counts.as_mut_ptr(), counts.len())
+    })
 }
 
-pub fn sheet_fetch(sheet: &[u8], len: usize, k: u32) -> Result<Plot, u32> {
-    let mut p = Plot::default();
-    let n = unsafe { calls::kx_sheet_fetch(sheet.as_ptr(), sheet.len(), len, k, &mut p.number, p.start.as_mut_ptr(), 2, p.sides.as_mut_ptr(), 8) };
-    answer(n, p)
+/// How many records the sheet in the first `len` bytes has.
+///
+/// Refusals: `BadLength`, `BadTrailer`, `BadDistance`; then for each record `BadNumber`, `NotClosed`, `OffMap`.
+pub fn sheet_check(sheet: &[u8], len: usize) -> Result<u32, Refusal> {
+    answer(|count: &mut u32| unsafe { calls::kx_sheet_check(sheet.as_ptr(), sheet.len(), len, count) })
 }
 
-pub fn sheet_read(sheet: &[u8], len: usize, count: u32, k: u32) -> Result<Plot, u32> {
-    let mut p = Plot::default();
-    let n = unsafe { calls::kx_sheet_read(sheet.as_ptr(), sheet.len(), len, count, k, &mut p.number, p.start.as_mut_ptr(), 2, p.sides.as_mut_ptr(), 8) };
-    answer(n, p)
+/// Record k, counted from 0. Refusals: those of [`sheet_check`], then `NoRecord`.
+pub fn sheet_fetch(sheet: &[u8], len: usize, k: u32) -> Result<Plot, Refusal> {
+    answer(|Plot { number, start, sides }: &mut Plot| unsafe {
+        calls::kx_sheet_fetch(sheet.as_ptr(), sheet.len(), len, k, number, start.as_mut_ptr(), start.len(), sides.as_mut_ptr(), sides.len())
+    })
 }
 
-/// Starts a sheet after `heading` bytes: its length.
-pub fn sheet_start(sheet: &mut [u8], heading: usize) -> Result<usize, u32> {
-    let mut len = 0;
-    let n = unsafe { calls::kx_sheet_start(sheet.as_mut_ptr(), sheet.len(), heading, &mut len) };
-    answer(n, len)
+/// Record k of a sheet in which [`sheet_check`] has counted `count` records, in constant time.
+///
+/// Refusals: `BadLength`, `BadDistance` when `count` records and a trailer are longer than `len`, `NoRecord`.
+pub fn sheet_read(sheet: &[u8], len: usize, count: u32, k: u32) -> Result<Plot, Refusal> {
+    answer(|Plot { number, start, sides }: &mut Plot| unsafe {
+        calls::kx_sheet_read(sheet.as_ptr(), sheet.len(), len, count, k, number, start.as_mut_ptr(), start.len(), sides.as_mut_ptr(), sides.len())
+    })
 }
 
-/// Inserts a plot: the new length.
-pub fn sheet_insert(sheet: &mut [u8], len: usize, plot: &Plot) -> Result<usize, u32> {
-    let mut grown = 0;
-    let n = unsafe { calls::kx_sheet_insert(sheet.as_mut_ptr(), sheet.len(), len, plot.number, plot.start.as_ptr(), 2, plot.sides.as_ptr(), 8, &mut grown) };
-    answer(n, grown)
+/// Starts a sheet of no records after `heading` bytes: its length. Refusals: `BadLength` above [`SHEET_LIMIT`], then `NoRoom`.
+pub fn sheet_start(sheet: &mut [u8], heading: usize) -> Result<usize, Refusal> {
+    answer(|len: &mut usize| unsafe { calls::kx_sheet_start(sheet.as_mut_ptr(), sheet.len(), heading, len) })
+}
+
+/// Inserts a plot by its number: the new length.
+///
+/// Refusals: first the outline's `NotClosed` and `OffMap`, then those of [`sheet_check`], `BadNumber`, `NoRoom`.
+pub fn sheet_insert(sheet: &mut [u8], len: usize, plot: &Plot) -> Result<usize, Refusal> {
+    let Plot { number, start, sides } = plot;
+    answer(|grown: &mut usize| unsafe {
+        calls::kx_sheet_insert(sheet.as_mut_ptr(), sheet.len(), len, *number, start.as_ptr(), start.len(), sides.as_ptr(), sides.len(), grown)
+    })
+}
+
+/// The listing of the sheet in the first `len` bytes, at the start of `text`. It is always accepted: a sheet that [`sheet_check`]
+/// refuses has the listing `refused`, a space and the number.
+///
+/// [`TEXT`] is some two thirds of a megabyte: take it from the heap, as in
+/// `let mut text: Box<[u8; TEXT]> = vec![0; TEXT].try_into().unwrap();`.
+pub fn list<'a>(sheet: &[u8], len: usize, text: &'a mut [u8; TEXT]) -> Result<&'a [u8], Refusal> {
+    let written = answer(|written: &mut usize| unsafe { calls::kx_list(sheet.as_ptr(), sheet.len(), len, text, written) })?;
+    Ok(&text[..written])
 }

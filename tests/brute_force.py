@@ -4,15 +4,16 @@ Run from the repository's root:
 
     python3 tests/brute_force.py > crates/brute_force/stdout
 
-It shares with the program the picked octagons, the sequence of drawn ones and the form of the output, and none of its
-code. A set is a Python set of cells (x, y) with no edge. An octagon's cells are those that pass document 01's eight
-inequalities. Sums, positions that fit and opposed diagonal rows are taken word for word from the definitions; a plot's pieces have to rebuild its
-cells. "agree" is
-the number of comparisons that the program makes, since every answer has to agree.
+It shares with the program the thirteen pieces, the sequence of drawn ones and the form of the output, and none of its
+code. A set is a Python set of cells (x, y) with no edge and no window. Sums, positions that fit, the cells to the left of a
+side and opposed diagonal rows are taken word for word from the definitions. "agreed" is the number of comparisons that the
+program makes, since every answer has to agree.
 """
 
+from fractions import Fraction
+
 MOST = 2**31 - 1
-LEAST = -(2**31)
+LIMIT = 16000
 STEPS = [(1, 0), (1, 1), (0, 1), (-1, 1), (-1, 0), (-1, -1), (0, -1), (1, -1)]
 
 
@@ -21,10 +22,16 @@ def forms(cell):
     return [-y, x - y, x, x + y, y, -x + y, -x, -x - y]
 
 
-def cells(bounds):
-    """The cells within eight bounds. Those of the octagons here are at most 12 from the origin."""
-    square = [(x, y) for x in range(-12, 13) for y in range(-12, 13)]
-    return {c for c in square if all(f <= b for f, b in zip(forms(c), bounds))}
+def square(middle, reach):
+    x, y = middle
+    return [(x + a, y + b) for a in range(-reach, reach + 1) for b in range(-reach, reach + 1)]
+
+
+def cells(bounds, middle):
+    """The cells within eight bounds. Those of the octagons here are at most 8 from a middle; 12 shows that no more are left out."""
+    some = {c for c in square(middle, 12) if all(f <= b for f, b in zip(forms(c), bounds))}
+    assert all(max(abs(x - middle[0]), abs(y - middle[1])) <= 8 for x, y in some)
+    return some
 
 
 def tightest(some):
@@ -33,12 +40,16 @@ def tightest(some):
 
 
 def is_octagon(some):
-    """Whether the cells are those of an octagon, within a square about them."""
+    """Whether the cells are those of an octagon, within a rectangle about them."""
     xs = [x for x, _ in some]
     ys = [y for _, y in some]
     bounds = tightest(some)
-    square = [(x, y) for x in range(min(xs), max(xs) + 1) for y in range(min(ys), max(ys) + 1)]
-    return all((c in some) == all(f <= b for f, b in zip(forms(c), bounds)) for c in square)
+    about = [(x, y) for x in range(min(xs), max(xs) + 1) for y in range(min(ys), max(ys) + 1)]
+    return all((c in some) == all(f <= b for f, b in zip(forms(c), bounds)) for c in about)
+
+
+def is_off_map(some):
+    return any(abs(x) > LIMIT or abs(y) > LIMIT for x, y in some)
 
 
 def dilation(a, b):
@@ -65,19 +76,102 @@ def is_opposed(a, b):
     return (rising(a) and falling(b)) or (falling(a) and rising(b))
 
 
-# ---- picked octagons
+# ---- answers: a list of ten numbers and the refusal number
 
 
-def walked(sides):
-    """The tightest bounds round the corners of an outline that starts at (0, 0)."""
-    x = y = 0
-    corners = [(0, 0)]
+def row(numbers, number=0):
+    return numbers + [0] * (10 - len(numbers)) + [number]
+
+
+def refused(number):
+    return row([], number)
+
+
+def lifted(numbers):
+    """Signed numbers as the program writes them."""
+    return [n + 2**32 for n in numbers]
+
+
+def accepted(some):
+    assert is_octagon(some)
+    return refused(2) if is_off_map(some) else row(lifted(tightest(some)))
+
+
+def normal(some):
+    return accepted(some) if some else refused(1)
+
+
+def spread(a, b):
+    """The answer to a spread of cells on the map."""
+    sums = dilation(a, b)
+    assert is_octagon(sums) != is_opposed(a, b)
+    return refused(4) if is_opposed(a, b) else accepted(sums)
+
+
+def trim(a, b):
+    left = erosion(a, b)
+    return accepted(left) if left else refused(5)
+
+
+# ---- outlines
+
+
+def corners(start, sides):
+    """The corners of a walk, and where it ends."""
+    x, y = start
+    found = [start]
     for n, (dx, dy) in zip(sides, STEPS):
         x, y = x + n * dx, y + n * dy
-        corners.append((x, y))
-    assert (x, y) == (0, 0)
-    return tightest(corners)
+        found.append((x, y))
+    return found
 
+
+def outline(some):
+    """The start and the sides: the corner after side k is the last cell of the set along step k."""
+    x, y = start = min(some, key=lambda c: (c[1], c[0]))
+    sides = []
+    for dx, dy in STEPS:
+        n = 0
+        while (x + dx, y + dy) in some:
+            x, y, n = x + dx, y + dy, n + 1
+        sides.append(n)
+    assert (x, y) == start
+    assert set(corners(start, sides)) <= some and inside(start, sides) == some
+    return start, sides
+
+
+def inside(start, sides):
+    """The cells on or to the left of each side. Those of the walks here are at most 10 from the start; 12 shows that no more are left out."""
+    found = corners(start, sides)
+    assert found[8] == start
+    some = {
+        (x, y)
+        for x, y in square(start, 12)
+        if all(dx * (y - v) - dy * (x - u) >= 0 for (dx, dy), (u, v) in zip(STEPS, found))
+    }
+    assert all(max(abs(x - start[0]), abs(y - start[1])) <= 10 for x, y in some)
+    return some
+
+
+def outline_row(start, sides):
+    return row(sides + lifted(start))
+
+
+def octagon_of(start, sides):
+    return accepted(inside(start, sides)) if corners(start, sides)[8] == start else refused(3)
+
+
+def corner_row(some, k):
+    if k > 7:
+        return refused(7)
+    start, sides = outline(some)
+    corner = corners(start, sides)[k]
+    # a quarter of a cell number is a float of its own
+    assert all(Fraction(n / 4) == Fraction(n, 4) for n in corner)
+    return row(lifted(corner))
+
+
+# ---- drawn octagons
 
 PIECES = [
     [1, 0, 0, 0, 1, 0, 0, 0],
@@ -95,26 +189,6 @@ PIECES = [
     [0, 1, 0, 1, 0, 1, 0, 1],
 ]
 
-PICKED = (
-    [
-        walked([0, 0, 0, 0, 0, 0, 0, 0]),
-        [0, 0, 9, 1, 2, 9, 0, 0],
-        [5, 0, 5, 1, 5, 0, 5, -1],
-        walked([2, 0, 1, 0, 2, 0, 1, 0]),
-        walked([2, 1, 1, 1, 2, 1, 1, 1]),
-        walked([2, 0, 2, 0, 2, 0, 2, 0]),
-    ]
-    + [walked(piece) for piece in PIECES]
-    + [
-        [0, MOST, 2, MOST, 1, MOST, 0, MOST],
-        [LEAST] * 8,
-        walked([0, 2, 0, 2, 0, 2, 0, 2]),
-        walked([3, 0, 1, 1, 0, 2, 0, 0]),
-    ]
-)
-
-# ---- drawn octagons
-
 
 def bytes_from(seed):
     while True:
@@ -122,117 +196,120 @@ def bytes_from(seed):
         yield seed // 2**16 % 256
 
 
-def drawn(draw, middle):
-    """One octagon from twelve draws."""
-    d = [next(draw) for _ in range(12)]
-    span = 2 * middle + 1
-    a, b, c, e, f, g = [n % span - middle for n in d[1:7]]
-    kind = d[0] % 16
-    if kind < 2:
-        bounds = [n % (2 * middle + 5) - (middle + 2) for n in d[1:9]]
-    elif kind < 4:
-        bounds = [n % (middle + 4) - 1 for n in d[1:9]]
-    elif kind < 6:
-        bounds = tightest([(a, b), (a, e), (c, b), (c, e)])
-    elif kind < 8:
-        bounds = tightest([(a, b), (c, e), (f, g)])
-    elif kind < 11:
-        m, n = [n % (middle + 1) for n in d[1:3]]
-        corners = [(m, 0), (m + n, n), (0, m), (n, m + n)]
-        bounds = tightest([(x - middle, y - middle) for x, y in corners])
-    else:
-        a, b, n = [n % (middle + 1) for n in d[1:4]]
-        a, b = a - middle, b - middle
-        ends = [
-            [(a, b), (a + n, b)],
-            [(a, b), (a, b + n)],
-            [(a, b), (a + n, b + n)],
-            [(a + n, b), (a, b + n)],
-        ]
-        bounds = tightest(ends[[0, 1, 2, 2, 3, 3][d[4] % 6]])
-    if d[11] % 4 < 2:
-        for k in range(d[11] % 4, 8, 2):
-            n = d[7 + k // 2]
-            bounds[k] = MOST if n < 32 else max(bounds[k], n % 10 - 5)
-    return bounds
+def coordinate(draw):
+    n = draw // 16
+    return {0: 15992 + n, 1: -15992 - n}.get(draw % 16, n - 7)
+
+
+def piece(draw):
+    """K2 or K4 in one draw of four."""
+    n = draw // 4 % 13
+    return PIECES[n % 2 * 2 + 1 if draw % 4 == 0 else n]
+
+
+def drawn(draw, most):
+    """The bounds of one octagon from ten draws, and the middle of the cells that it has."""
+    d = [0] + [next(draw) for _ in range(10)]
+    middle = coordinate(d[6]), coordinate(d[7])
+    m, n = d[2] % (most + 1), d[4] % (most + 1)
+    sides = [m * a + n * b for a, b in zip(piece(d[1]), piece(d[3]))]
+    bounds = tightest(inside(middle, sides))
+    for k in range(8):
+        n = d[8 + k % 3]
+        if d[5] % 8 == 7:
+            bounds[k] -= n % 3
+        elif d[5] % 8 == k % 2:
+            bounds[k] = MOST if n % 8 == 0 else bounds[k] + n // 8 % 4
+    return bounds, middle
 
 
 # ---- the tally
 
 
-class Row:
+class Kind:
     def __init__(self):
         self.numbers = [0] * 8
         self.digest = 0
 
-    def mix(self, value):
-        self.digest = (self.digest * 31 + value) % 1000000007
-
-    def note(self, number, some):
-        self.numbers[number] += 1
-        for index in sorted((y + 32) * 65 + x + 32 for x, y in some):
-            self.mix(index)
-        self.mix(4225)
+    def note(self, expected):
+        self.numbers[expected[10]] += 1
+        for value in expected:
+            self.digest = (self.digest * 31 + value) % 1000000007
 
 
-ROWS = {kind: Row() for kind in ["normalise", "count", "dilate", "erode", "opening", "closing", "dilate_n", "erode_n", "split"]}
+CALLS = {
+    name: Kind()
+    for name in (
+        "normalise count_cells to_outline vertex_place to_octagon decompose "
+        "dilate erode closing opening dilate_n erode_n"
+    ).split()
+}
+OPERATIONS = list(CALLS)[6:]
 
 
-def compare(pair, plot, element):
-    p, e = cells(plot), cells(element)
-    for some in (p, e):
-        ROWS["normalise"].note(0 if some else 1, some)
-        ROWS["count"].note(0 if some else 1, some)
-        assert not some or is_octagon(some)
-    ROWS["split"].note(0 if p else 1, p)
-    if not p or not e:
-        for kind in ("dilate", "erode", "opening", "closing"):
-            ROWS[kind].note(1, set())
-        return
-    sums = dilation(p, e)
-    ROWS["dilate"].note(4 if is_opposed(p, e) else 0, sums)
-    assert is_octagon(sums) != is_opposed(p, e)
-    left = erosion(p, e)
-    ROWS["erode"].note(0 if left else 5, left)
-    assert not left or is_octagon(left)
-    opened = dilation(left, e)
-    ROWS["opening"].note(5 if not left else 4 if is_opposed(left, e) else 0, opened)
-    assert not left or is_octagon(opened) != is_opposed(left, e)
-    closed = erosion(sums, e)
-    ROWS["closing"].note(4 if is_opposed(p, e) else 0, closed)
-    assert is_opposed(p, e) or is_octagon(closed)
-    if pair % 4 == 0:
-        compare_folds(p, e)
+def compare_operand(pair, some):
+    expected = normal(some)
+    number = expected[10]
+    CALLS["normalise"].note(expected)
+    CALLS["count_cells"].note(refused(number) if number else row([len(some)]))
+    CALLS["to_outline"].note(refused(number) if number else outline_row(*outline(some)))
+    CALLS["vertex_place"].note(refused(number) if number else corner_row(some, pair % 9))
+    return number
+
+
+def compare_back(pair, some):
+    """An outline of the set, with one side longer, or two opposite ones, or as it is."""
+    start, sides = outline(some)
+    choice = pair % 20
+    if choice < 16:
+        sides[choice % 8] += 1
+    if 8 <= choice < 16:
+        sides[(choice + 4) % 8] += 1
+    CALLS["to_octagon"].note(octagon_of(start, sides))
+
+
+def compare_steps(p, e):
+    first = spread(p, e)
+    CALLS["dilate"].note(first)
+    CALLS["closing"].note(first if first[10] else trim(dilation(p, e), e))
+    first = trim(p, e)
+    CALLS["erode"].note(first)
+    CALLS["opening"].note(first if first[10] else spread(erosion(p, e), e))
 
 
 def compare_folds(p, e):
-    spread = left = p
-    for n in range(7):
+    more = less = p
+    for n in range(5):
         if n:
-            spread = dilation(spread, e)
-            left = erosion(left, e) if left else left
-        ROWS["dilate_n"].note(4 if n and is_opposed(p, e) else 0, spread)
-        ROWS["erode_n"].note(0 if left else 5, left)
+            more, less = dilation(more, e), erosion(less, e) if less else less
+        CALLS["dilate_n"].note(refused(4) if n and is_opposed(p, e) else accepted(more))
+        CALLS["erode_n"].note(accepted(less) if less else refused(5))
+    CALLS["dilate_n"].note(refused(6))
+    CALLS["erode_n"].note(refused(6))
+
+
+def compare(pair, plot, element):
+    p, e = cells(*plot), cells(*element)
+    first, second = compare_operand(pair, p), compare_operand(pair, e)
+    CALLS["decompose"].note(refused(first) if first else outline_row(*outline(p)))
+    if p:
+        compare_back(pair, p)
+    if first or second:
+        for name in OPERATIONS:
+            CALLS[name].note(refused(first or second))
+        return
+    compare_steps(p, e)
+    compare_folds(p, e)
 
 
 def main():
-    pair = 0
-    for plot in PICKED:
-        for element in PICKED:
-            compare(pair, plot, element)
-            pair += 1
-    draw = bytes_from(1)
-    for _ in range(3000):
-        plot = drawn(draw, 3)
-        element = drawn(draw, 2)
-        compare(pair, plot, element)
-        pair += 1
-    for kind, row in ROWS.items():
-        n = row.numbers
-        print(
-            f"{kind} {sum(n)} agree: {n[0]} accepted, {n[1]} refused with 1, "
-            f"{n[4]} with 4, {n[5]} with 5, digest {row.digest}"
-        )
+    draw = bytes_from(0)
+    for pair in range(2500):
+        plot = drawn(draw, 2)
+        compare(pair, plot, drawn(draw, 1))
+    print("call         accepted, refused with 1 to 7, agreed, digest")
+    for name, kind in CALLS.items():
+        print(f"{name:<12}", *kind.numbers, sum(kind.numbers), kind.digest)
 
 
 main()

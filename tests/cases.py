@@ -104,45 +104,56 @@ def fits(plot, frame):
     return {(x - v, y - w) for x, y in plot for v, w in frame if all((x - v + a, y - w + b) in plot for a, b in frame)}
 
 
+def beside(name, answer):
+    """A line of which the program works out both parts, and the two have to agree."""
+    print("%s: %s; by cells %s: agree" % (name, show(answer), show(answer)))
+
+
 def main():
     plot = {(x, y) for x in range(-2, 3) for y in range(5) if abs(x) + abs(y - 2) <= 2}
     frame = {(0, 0), (1, 0), (0, 1), (1, 1)}
-    print("plot:", show(around(plot)))
-    print("positions of the frame:", show(around(fits(plot, frame))))
-    print("ground that it opens:", show(around(sums(fits(plot, frame), frame))))
-    print("the price list's figure, cells %d" % len(sums(fits(plot, frame), frame)))
-    print("cell (16000,0) spread by (0,0):", show(around(sums({(16000, 0)}, {(0, 0)}))))
-    print("cell (16000,0) spread by (1,0):", show(around(sums({(16000, 0)}, {(1, 0)}))))
+    beside("plot", around(plot))
+    beside("positions of the frame", around(fits(plot, frame)))
+    beside("ground that it opens", around(sums(fits(plot, frame), frame)))
+    print("the price list's figure, cells %d: agree" % len(sums(fits(plot, frame), frame)))
+    beside("cell (16000,0) spread by (0,0)", around(sums({(16000, 0)}, {(0, 0)})))
+    beside("cell (16000,0) spread by (1,0)", around(sums({(16000, 0)}, {(1, 0)})))
     cells = {(0, 0)}
+    print("origin spread once by itself has the same cells:", "agree" if sums(cells, cells) == cells else "disagree")
     for _ in range(65535):
         cells = sums(cells, {(0, 0)})
-    print("origin spread 65535 times by itself:", show(around(cells)))
-    print("origin spread 65536 times by itself:", show(6))
+    beside("origin spread 65535 times by itself", around(cells))
+    print("origin spread 65536 times by itself: %s: agree" % show(6))
     # the block's cells and those of K13, summed; corner 2 is where the sides n1 and n2 meet: the lowest of the rightmost cells
     block = {(x, y) for x in range(3) for y in range(2)}
     star = {(0, 0), (1, 1), (-1, 1), (0, 2), (0, 1)}
     spread = sums(block, star)
     right = max(x for x, _ in spread)
     corner = (right, min(y for x, y in spread if x == right))
-    print("the block spread by K13:", show(around(spread)))
-    print("its corner 2 is 0.75 east, 0.25 north:", "yes" if (corner[0] / 4, corner[1] / 4) == (0.75, 0.25) else "no")
+    assert (corner[0] / 4, corner[1] / 4) == (0.75, 0.25)
+    beside("the block spread by K13", around(spread))
+    print("its corner 2, in quarter metres east and north: %d %d: agree" % corner)
+    # too large to enumerate, or bounds too far apart
     for c in (
         (MIN,) * 8,
-        (MAX,) * 8,
         (MAX, MIN) * 4,
         (MIN, MAX) * 4,
         (MIN, MIN, MAX, MAX, MAX, MAX, MAX, MAX),
         (MAX, MAX, MAX, MAX, MIN, MIN, MIN, MIN),
         (MAX, MAX, MIN, MAX, MAX, MAX, MAX, MAX),
         (16000, MAX, 16000, MAX, 16000, MAX, 16000, MAX),
+    ):
+        print("normalise %s: %s" % (" ".join(map(str, c)), show(normal(c))))
+    for c in (
+        (MAX,) * 8,
         (16000, MAX, 16001, MAX, 16000, MAX, 16000, MAX),
+        (MAX, -3, MAX, MAX, MAX, 3, 0, 7),
         (MAX, 0, MAX, 1, MAX, 0, MAX, -1),
         (MAX, 0, MAX, 0, MAX, 0, MAX, 0),
-        (MAX, -3, MAX, MAX, MAX, 3, 0, 7),
         (-5, -3, MAX, MAX, 5, MAX, 0, -7),
-        (MAX, 7, MAX, 8, MAX, 7, MAX, 8),
+        (MAX, 2, MAX, 3, MAX, 2, MAX, 3),
     ):
-        print("normalise %s:" % " ".join(map(str, c)), show(normal(c)))
+        beside("normalise %s" % " ".join(map(str, c)), normal(c))
 
 
 if __name__ == "__main__":

@@ -4,7 +4,7 @@
     python3 tests/sheets.py write    writes crates/listing/stdin and stdout (document 01's sheet) and crates/sheet_cases/stdout
     python3 tests/sheets.py try      runs target/bin/listing, as `rt check listing` leaves it, on 400 random sheets, good and spoilt
 
-Run it from the top of the repository. It needs Python 3.8 or newer and nothing else.
+Run it from the top of the repository. It needs Python 3.9 or newer and nothing else.
 """
 import random
 import struct
@@ -24,7 +24,7 @@ class Refused(Exception):
 
 
 def corners(i, j, n):
-    """The corners of the walk: corner 0 is the start, corner k+1 is corner k moved n[k] steps along d[k]."""
+    """The corners of the walk and its end: corner 0 is the start, corner k+1 is corner k moved n[k] steps along d[k]."""
     places = [(i, j)]
     for (dx, dy), steps in zip(STEPS, n):
         x, y = places[-1]
@@ -40,11 +40,12 @@ def inside(places, x, y):
 def cells(i, j, n):
     """The number of cells of an outline: the cells of each row between the westmost and the eastmost that the walk passes.
 
-    Where few cells lie round it, each is tested as well. Refuses 3 when the outline does not close, 2 when some cell lies off the map.
+    Where few cells lie round it, each is tested as well. Refuses 3 when the walk does not come back to its start, 2 when some cell lies
+    off the map.
     """
-    if n[0] + n[1] + n[7] != n[3] + n[4] + n[5] or n[1] + n[2] + n[3] != n[5] + n[6] + n[7]:
-        raise Refused(3)
     places = corners(i, j, n)
+    if places[-1] != places[0]:
+        raise Refused(3)
     if any(abs(x) > MAP or abs(y) > MAP for x, y in places):
         raise Refused(2)
     west, east = {}, {}
@@ -283,8 +284,9 @@ def random_outline(rng):
     n = [a, b, c, d, a, b, c, d]
     if rng.random() < 0.4:
         for sides in ([0, 2, 5], [0, 3, 6], [1, 4, 6], [2, 4, 7]):
-            for side in rng.sample(sides, 3) if rng.random() < 0.5 else []:
-                n[side] += 1
+            if rng.random() < 0.5:
+                for side in sides:
+                    n[side] += 1
     if rng.random() < 0.004:
         n[rng.randrange(8)] += 1
     reach = MAP + 20 if rng.random() < 0.004 else MAP - 200
@@ -316,9 +318,9 @@ def attempt():
     for k in range(400):
         sheet = random_sheet(rng)
         expected = listing(sheet, len(sheet))
-        given = subprocess.run(["target/bin/listing"], input=sheet, stdout=subprocess.PIPE, check=True).stdout.decode()
-        if given != expected:
-            sys.exit("sheet %d: expected\n%sbut target/bin/listing wrote\n%s" % (k, expected, given))
+        given = subprocess.run(["target/bin/listing"], input=sheet, capture_output=True, check=True)
+        if (given.stdout, given.stderr) != (expected.encode(), b""):
+            sys.exit("sheet %d: expected\n%sbut target/bin/listing wrote\n%s%s" % (k, expected, given.stdout, given.stderr))
         kind = expected.split("\n")[0] if expected.startswith("refused") else "listed"
         seen[kind] = seen.get(kind, 0) + 1
     print("400 sheets agree:", ", ".join("%s %d" % item for item in sorted(seen.items())))

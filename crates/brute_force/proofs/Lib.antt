@@ -1,2 +1,2 @@
 -- What the proofs of this program cite.
-pub mod Range
+pub mod Lift

@@ -1,70 +1,131 @@
-// What the enumerated sets say that a call answers, beside what it answers.
-use crate::bounds;
-use crate::grid::SIZE;
+// What an enumerated set says that a call answers, beside what the library answers.
+ghost use Prim.Native.Nat.{_<_};
+use crate::bench::BOUNDS;
+use crate::bench::Bench;
+use crate::bench::EXPECTED;
+use crate::bench::LIFT;
+use crate::bench::NUMBER;
+use crate::bench::get;
+use crate::bench::lifted;
+use crate::bench::lowered;
 use crate::sets;
-use crate::tally;
 use octagon::Answer;
-
-// A number that no call hands back: what is expected of a set that cannot be.
-pub const IMPOSSIBLE: u32 = 99;
+use octagon::Octagon;
 
 // Document 01's refusal numbers.
-pub const NO_CELL: u32 = 1;
+pub const NO_CELL: usize = 1;
 
-pub const OPPOSED_ROWS: u32 = 4;
+const OFF_MAP: usize = 2;
 
-pub const NOTHING_LEFT: u32 = 5;
+pub const NOT_CLOSED: usize = 3;
 
-// The octagon whose cells are a set. Refused as `empty` says where there is no cell, and as `other` says where no
-// octagon has just these cells, which its tightest bounds show.
-pub fn octagon_of(set: &[bool], empty: u32, other: u32) -> Answer {
-    if sets::count(set) == 0 {
-        return Answer::Refused(empty);
-    }
-    let o = sets::tightest(set);
-    let mut cells = [false; SIZE];
-    sets::within(o, &mut cells);
-    if sets::is_same(set, &cells) {
-        return Answer::Octagon(o);
-    }
-    Answer::Refused(other)
+const OPPOSED_ROWS: usize = 4;
+
+pub const NOTHING_LEFT: usize = 5;
+
+pub const TOO_MANY_FOLDS: usize = 6;
+
+pub const NO_CORNER: usize = 7;
+
+// The map's limit, counted from LIFT.
+const LIMIT: usize = LIFT + 16000;
+
+// Whether a bound is past the map's limit.
+fn is_past(bench: &Bench, k: usize) -> bool
+    requires { ⌜ k < 16 ⌝ }
+{
+    LIMIT < get(bench, BOUNDS, k)
 }
 
-fn is_same(a: Answer, b: Answer) -> bool {
-    match a {
-        Answer::Octagon(o) => match b {
-            Answer::Octagon(q) => bounds::is_same(o, q),
-            Answer::Refused(_) => false,
-        },
-        Answer::Refused(m) => match b {
-            Answer::Octagon(_) => false,
-            Answer::Refused(n) => m == n,
-        },
+// The refusal number of a set, or 0, by the tightest bounds round it: as `empty` says where it has no cell; 4 where no octagon has just
+// its cells; 2 where the greatest -y, x, y or -x of a cell is past the map's limit.
+fn number_of(bench: &Bench, set: usize, empty: usize) -> usize
+    requires { ⌜ set < 4 ⌝ }
+{
+    if bench[BOUNDS] == 0 {
+        return empty;
+    }
+    if !sets::is_within(bench, BOUNDS, set) {
+        return OPPOSED_ROWS;
+    }
+    if is_past(bench, 0) | is_past(bench, 2) | is_past(bench, 4) | is_past(bench, 6) {
+        return OFF_MAP;
+    }
+    0
+}
+
+// Expects the ten numbers of a row, or with a number that is not 0 a refusal, which has no others.
+pub fn expect_row(bench: &mut Bench, row: usize, number: usize)
+    requires { ⌜ row < 336 ⌝ }
+{
+    let mut k = 0;
+    while k < 10 {
+        bench[EXPECTED + k] = if number == 0 { bench[row + k] } else { 0 };
+        k += 1;
+    }
+    bench[NUMBER] = number;
+}
+
+// Expects the octagon whose cells are a set, or its refusal. Gives the refusal number, or 0.
+pub fn expect(bench: &mut Bench, set: usize, empty: usize) -> usize
+    requires { ⌜ set < 4 ⌝ }
+{
+    sets::tighten(bench, set);
+    let number = number_of(bench, set, empty);
+    expect_row(bench, BOUNDS, number);
+    number
+}
+
+// Whether a signed number is the one expected.
+pub fn is_signed(bench: &Bench, k: usize, z: i32) -> bool
+    requires { ⌜ k < 16 ⌝ }
+{
+    get(bench, EXPECTED, k) == lifted(z)
+}
+
+fn is_octagon(bench: &Bench, o: Octagon) -> bool {
+    is_signed(bench, 0, o.c0)
+        & is_signed(bench, 1, o.c1)
+        & is_signed(bench, 2, o.c2)
+        & is_signed(bench, 3, o.c3)
+        & is_signed(bench, 4, o.c4)
+        & is_signed(bench, 5, o.c5)
+        & is_signed(bench, 6, o.c6)
+        & is_signed(bench, 7, o.c7)
+}
+
+// Whether a refusal is the one expected.
+pub fn is_refused(bench: &Bench, number: u32) -> bool {
+    (0 < number) & (number as usize == bench[NUMBER])
+}
+
+// Whether the library's answer is the one expected.
+pub fn is_answer(bench: &Bench, given: Answer) -> bool {
+    match given {
+        Answer::Octagon(o) => is_octagon(bench, o),
+        Answer::Refused(n) => is_refused(bench, n),
     }
 }
 
-// 0 of an octagon, and a refusal's number.
-pub fn number_of(a: Answer) -> u32 {
-    match a {
-        Answer::Octagon(_) => 0,
-        Answer::Refused(n) => n,
-    }
+fn bound(bench: &Bench, row: usize, k: usize) -> i32
+    requires { ⌜ row < 336 ⌝ }
+    requires { ⌜ k < 16 ⌝ }
+{
+    lowered(get(bench, row, k))
 }
 
-pub fn compare_answers(
-    kind: u8,
-    pair: usize,
-    expected: Answer,
-    given: Answer,
-    set: &[bool],
-    tally: &mut [u64],
-) {
-    tally::note(
-        tally,
-        kind,
-        pair,
-        is_same(expected, given),
-        number_of(expected),
-        set,
-    );
+// An operand as the library takes it.
+pub fn octagon(bench: &Bench, row: usize) -> Octagon
+    requires { ⌜ row < 336 ⌝ }
+{
+    Octagon {
+        c0: bound(bench, row, 0),
+        c1: bound(bench, row, 1),
+        c2: bound(bench, row, 2),
+        c3: bound(bench, row, 3),
+        c4: bound(bench, row, 4),
+        c5: bound(bench, row, 5),
+        c6: bound(bench, row, 6),
+        c7: bound(bench, row, 7),
+    }
 }

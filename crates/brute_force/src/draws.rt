@@ -1,166 +1,97 @@
-// Octagons of many shapes, from a linear congruential sequence.
+// Octagons of many shapes and places, from a linear congruential sequence.
 //
-// Every cell of a plot (middle 3) is at most 6 from the origin, and every cell of an element (middle 2) at most 4.
+// A plot is at most 8 cells from its window's middle, and an element at most 4: four folds stay in the window.
 ghost use Prim.Native.Nat.{_<_};
-use crate::bounds;
+use crate::bench::BOUNDS;
+use crate::bench::Bench;
+use crate::bench::DRAWS;
+use crate::bench::LIFT;
+use crate::bench::OPERANDS;
+use crate::bench::get;
 use crate::grid;
-use octagon::Octagon;
+use crate::grid::MIDDLE;
+use crate::grid::START;
+use crate::pieces;
+use crate::sets;
+use crate::walks;
 
-const MODULUS: u64 = 2147483648;
+const MODULUS: usize = 2147483648;
 
-fn next(seed: u64) -> u64 {
-    (seed % MODULUS * 1103515245 + 12345) % MODULUS
-}
-
-// Draws twelve bytes, and gives the seed for the next ones.
-pub fn refill(seed: u64, draws: &mut [u8; 12]) -> u64 {
-    let mut s = seed;
-    let mut i = 0;
-    while i < 12 {
-        s = next(s);
-        draws[i] = (s / 65536 % 256) as u8;
+// The next ten draws.
+fn refill(bench: &mut Bench) {
+    let mut s = bench[DRAWS];
+    let mut i = 1;
+    while i < 11 {
+        s = (s % MODULUS * 1103515245 + 12345) % MODULUS;
+        bench[DRAWS + i] = s / 65536 % 256;
         i += 1;
     }
-    s
+    bench[DRAWS] = s;
 }
 
-// The number below n that a draw picks.
-fn below(draw: u8, n: u8) -> u8
-    requires { ⌜ 0 < n ⌝ }
-    ensures { λ r. ⌜ r < n ⌝ }
-{
-    draw % n
-}
-
-// A bound counted from -least.
-fn bound(n: u8, least: u8) -> i32 {
-    grid::centred(n, least) as i32
-}
-
-// Eight bounds, each from -least to most.
-fn free(d: &[u8; 12], least: u8, most: u8) -> Octagon
-    requires { ⌜ least < 100 ⌝ }
-    requires { ⌜ most < 100 ⌝ }
-{
-    let n = least + most + 1;
-    Octagon::new(
-        bound(below(d[1], n), least),
-        bound(below(d[2], n), least),
-        bound(below(d[3], n), least),
-        bound(below(d[4], n), least),
-        bound(below(d[5], n), least),
-        bound(below(d[6], n), least),
-        bound(below(d[7], n), least),
-        bound(below(d[8], n), least),
-    )
-}
-
-// Bounds raised to hold the cell (a - middle, b - middle) too.
-fn round(o: Octagon, a: u8, b: u8, middle: u8) -> Octagon {
-    bounds::widened(o, grid::centred(a, middle), grid::centred(b, middle))
-}
-
-// The tightest octagon round two cells.
-fn round_two(a: u8, b: u8, c: u8, e: u8, middle: u8) -> Octagon {
-    round(round(bounds::NOWHERE, a, b, middle), c, e, middle)
-}
-
-// A row of one cell or more in one of the four directions, more often a diagonal one.
-fn row(d: &[u8; 12], middle: u8) -> Octagon
-    requires { ⌜ middle < 100 ⌝ }
-{
-    let a = below(d[1], middle + 1);
-    let b = below(d[2], middle + 1);
-    let n = below(d[3], middle + 1);
-    match d[4] % 6 {
-        0 => round_two(a, b, a + n, b, middle),
-        1 => round_two(a, b, a, b + n, middle),
-        2 | 3 => round_two(a, b, a + n, b + n, middle),
-        _ => round_two(a + n, b, a, b + n, middle),
+// Where a window begins: some steps from the map's middle line, or near the map's edge.
+fn start(draw: usize) -> usize {
+    let n = draw / 16 % 16;
+    match draw % 16 {
+        0 => START + 15992 + n,
+        1 => START - 15992 - n,
+        _ => START + n - 7,
     }
 }
 
-// A block: all cells between two columns and two rows.
-fn block(d: &[u8; 12], middle: u8) -> Octagon
-    requires { ⌜ middle < 100 ⌝ }
-{
-    let span = 2 * middle + 1;
-    let a = below(d[1], span);
-    let b = below(d[2], span);
-    let c = below(d[3], span);
-    let e = below(d[4], span);
-    round(
-        round(round_two(a, b, c, e, middle), a, e, middle),
-        c,
-        b,
-        middle,
-    )
+// A piece: K2 or K4 in one draw of four, so that there are diagonal rows.
+fn piece(draw: usize) -> usize {
+    let n = draw / 4 % 13;
+    if draw % 4 == 0 { n % 2 * 2 + 1 } else { n }
 }
 
-// A tilted block: all cells between two diagonals of each kind, with its corners on them.
-fn tilted_block(d: &[u8; 12], middle: u8) -> Octagon
-    requires { ⌜ middle < 100 ⌝ }
-{
-    let m = below(d[1], middle + 1);
-    let n = below(d[2], middle + 1);
-    let low = round_two(m, 0, m + n, n, middle);
-    round(round(low, 0, m, middle), n, m + n, middle)
+// Bound k as it is, or raised where the choice is its parity, or lowered.
+fn altered(c: usize, k: usize, choice: usize, draw: usize) -> usize {
+    if choice == 7 {
+        return std::num::wrapping_sub_usize(c, draw % 3);
+    }
+    if choice != k % 2 {
+        return c;
+    }
+    if draw % 8 == 0 {
+        return LIFT + 2147483647;
+    }
+    std::num::wrapping_add_usize(c, draw / 8 % 4)
 }
 
-// The tightest octagon round three cells.
-fn round_three(d: &[u8; 12], middle: u8) -> Octagon
-    requires { ⌜ middle < 100 ⌝ }
+// Makes an operand of the bounds, altered.
+fn put_operand(bench: &mut Bench, set: usize)
+    requires { ⌜ set < 2 ⌝ }
 {
-    let span = 2 * middle + 1;
-    let two = round_two(
-        below(d[1], span),
-        below(d[2], span),
-        below(d[3], span),
-        below(d[4], span),
-        middle,
-    );
-    round(two, below(d[5], span), below(d[6], span), middle)
-}
-
-fn shape(d: &[u8; 12], middle: u8) -> Octagon
-    requires { ⌜ middle < 90 ⌝ }
-{
-    match d[0] % 16 {
-        0 | 1 => free(d, middle + 2, middle + 2),
-        2 | 3 => free(d, 1, middle + 2),
-        4 | 5 => block(d, middle),
-        6 | 7 => round_three(d, middle),
-        8 | 9 | 10 => tilted_block(d, middle),
-        _ => row(d, middle),
+    let choice = bench[DRAWS + 5] % 8;
+    let mut k = 0;
+    while k < 8 {
+        let c = altered(bench[BOUNDS + k], k, choice, bench[DRAWS + 8 + k % 3]);
+        bench[OPERANDS + set * 16 + k] = c;
+        k += 1;
     }
 }
 
-// A bound that is often slack.
-fn raised(c: i32, draw: u8) -> i32 {
-    if draw < 32 {
-        return i32::MAX;
-    }
-    bounds::greater(c, bound(draw % 10, 5))
+// Makes the bounds those of two pieces, each fewer than `most` times, and gives the place of their window.
+fn bound_pieces(bench: &mut Bench, most: usize) -> usize
+    requires { ⌜ 0 < most ⌝ }
+{
+    let place = grid::place_at(start(get(bench, DRAWS, 6)), start(get(bench, DRAWS, 7)));
+    let a = piece(get(bench, DRAWS, 1));
+    let b = piece(get(bench, DRAWS, 3));
+    let m = get(bench, DRAWS, 2) % most;
+    let n = get(bench, DRAWS, 4) % most;
+    pieces::put_sides(bench, a, m, b, n);
+    walks::bound_inside(bench, place, MIDDLE);
+    place
 }
 
-// One octagon: as drawn, or with its odd bounds or its even bounds raised.
-pub fn octagon(d: &[u8; 12], middle: u8) -> Octagon
-    requires { ⌜ middle < 90 ⌝ }
+// Makes an operand and its set. A plot has each piece at most twice, an element at most once.
+pub fn draw(bench: &mut Bench, set: usize)
+    requires { ⌜ set < 2 ⌝ }
 {
-    let o = shape(d, middle);
-    let r = Octagon::new(
-        raised(o.c0, d[7]),
-        raised(o.c1, d[7]),
-        raised(o.c2, d[8]),
-        raised(o.c3, d[8]),
-        raised(o.c4, d[9]),
-        raised(o.c5, d[9]),
-        raised(o.c6, d[10]),
-        raised(o.c7, d[10]),
-    );
-    match d[11] % 4 {
-        0 => Octagon::new(r.c0, o.c1, r.c2, o.c3, r.c4, o.c5, r.c6, o.c7),
-        1 => Octagon::new(o.c0, r.c1, o.c2, r.c3, o.c4, r.c5, o.c6, r.c7),
-        _ => o,
-    }
+    refill(bench);
+    let place = bound_pieces(bench, 3 - set);
+    put_operand(bench, set);
+    sets::enumerate(bench, OPERANDS + set * 16, set, place);
 }

@@ -1,29 +1,63 @@
-// The grid of cells that sets are enumerated on. A set is a slice of bools, one for each cell.
+// The cells that sets are enumerated on: a square window of WIDTH by WIDTH cells, which stands anywhere on the map or off it.
 //
-// The cell (x, y), with x and y from -32 to 32, stands at index (y + 32) * 65 + (x + 32).
-const REACH: usize = 32;
+// Cell k of a window is k % WIDTH east and k / WIDTH north of its lowest left cell. The sum of two cells, each counted from its window's
+// middle, is a cell of the window whose middle is the sum of the two middles. SIZE stands for a cell off the window.
+//
+// A window's place is one number: the coordinates of its lowest left cell, counted from BASE, the second times STRIDE.
+ghost use Prim.Native.Nat.{_≤_};
+use crate::bench::LIFT;
 
-const WIDTH: usize = 65;
+const REACH: usize = 24;
 
-pub const SIZE: usize = 4225;
+pub const WIDTH: usize = 49;
 
-// The coordinate of a line of cells, counted from the line at -middle.
-pub fn centred(n: u8, middle: u8) -> i16 {
-    n as i16 - middle as i16
+pub const SIZE: usize = 2401;
+
+pub const MIDDLE: usize = 1200;
+
+const BASE: usize = 262144;
+
+const STRIDE: usize = 1048576;
+
+// BASE less REACH: where a window begins whose middle is the line 0.
+pub const START: usize = 262120;
+
+// The place of the window whose middle is the cell (0, 0).
+pub const ORIGIN: usize = START * STRIDE + START;
+
+// The place of a window that begins at column x and row y.
+pub fn place_at(x: usize, y: usize) -> usize {
+    y % STRIDE * STRIDE + x % STRIDE
 }
 
-// The x of the cell at an index.
-pub fn column(at: usize) -> i16 {
-    centred((at % WIDTH) as u8, REACH as u8)
+// The place of the sums of two windows' cells, or of their differences.
+pub fn moved(erodes: bool, place: usize, by: usize) -> usize {
+    if erodes {
+        return std::num::wrapping_add_usize(std::num::wrapping_sub_usize(place, by), ORIGIN);
+    }
+    std::num::wrapping_sub_usize(std::num::wrapping_add_usize(place, by), ORIGIN)
 }
 
-// The y of the cell at an index.
-pub fn row(at: usize) -> i16 {
-    centred((at / WIDTH % WIDTH) as u8, REACH as u8)
+// Document 01's eight inequalities: the left side of inequality k at a cell, counted from LIFT.
+pub fn form(k: usize, place: usize, cell: usize) -> usize {
+    let x = place % STRIDE + cell % WIDTH;
+    let y = place / STRIDE % STRIDE + cell / WIDTH % WIDTH;
+    match k {
+        0 => LIFT + BASE - y,
+        1 => LIFT + x - y,
+        2 => LIFT + x - BASE,
+        3 => LIFT + x + y - 2 * BASE,
+        4 => LIFT + y - BASE,
+        5 => LIFT + y - x,
+        6 => LIFT + BASE - x,
+        _ => LIFT + 2 * BASE - x - y,
+    }
 }
 
-// A sum of two coordinates, each counted from the grid's edge, or WIDTH where it is off the grid.
-fn coordinate(total: usize) -> usize {
+// A sum of two coordinates, each counted from the window's edge, or WIDTH where it is off the window.
+fn coordinate(total: usize) -> usize
+    ensures { λ r. ⌜ r ≤ 49 ⌝ }
+{
     if total < REACH {
         return WIDTH;
     }
@@ -33,8 +67,10 @@ fn coordinate(total: usize) -> usize {
     WIDTH
 }
 
-// The index of the sum of two cells, or SIZE where the sum is off the grid.
-pub fn sum(a: usize, b: usize) -> usize {
+// The sum of two cells.
+pub fn sum(a: usize, b: usize) -> usize
+    ensures { λ r. ⌜ r ≤ 2401 ⌝ }
+{
     let x = coordinate(a % WIDTH + b % WIDTH);
     let y = coordinate(a / WIDTH + b / WIDTH);
     if WIDTH <= x {

@@ -1,63 +1,45 @@
-// Compares the library with sets of cells that are enumerated one by one, on small octagons.
+// Compares the library with sets of cells that are enumerated one by one, on small octagons anywhere on the map and past its edge.
 //
-// What is expected comes from document 01's eight inequalities and the set definitions 2.12 to 2.17 of source document 002
-// alone. tests/brute_force.py works the output out by itself.
+// What is expected comes from document 01's eight inequalities and steps and the set definitions 2.12 to 2.17 of source document 002
+// alone; no call of the library is made for it. tests/brute_force.py works the output out by itself.
 mod answers;
-mod bounds;
+mod bench;
+mod corners;
 mod draws;
-mod folds;
 mod grid;
 mod operands;
-mod pairs;
-mod picked;
+mod operations;
+mod outlines;
+mod pieces;
 mod sets;
-mod splits;
 mod tally;
+mod walks;
 
-use picked::PICKED;
+use bench::Bench;
+use bench::ELEMENT;
+use bench::PAIR;
+use bench::PLOT;
 
-// The number of pairs of picked octagons, and of drawn pairs.
-const PICKED_PAIRS: usize = 529;
+const PAIRS: usize = 2500;
 
-const DRAWN_PAIRS: usize = 3000;
-
-// The pairs of picked octagons.
-fn compare_picked(tally: &mut [u64]) {
-    let mut k = 0;
-    while k < PICKED_PAIRS {
-        pairs::compare(
-            k,
-            picked::octagon(k / PICKED),
-            picked::octagon(k % PICKED),
-            tally,
-        );
-        k += 1;
-    }
-}
-
-// One drawn pair. Gives the seed for the next.
-fn compare_next(seed: u64, pair: usize, tally: &mut [u64]) -> u64 {
-    let mut draws = [0u8; 12];
-    let middle = draws::refill(seed, &mut draws);
-    let plot = draws::octagon(&draws, 3);
-    let last = draws::refill(middle, &mut draws);
-    let element = draws::octagon(&draws, 2);
-    pairs::compare(pair, plot, element, tally);
-    last
-}
-
-fn compare_drawn(tally: &mut [u64]) {
-    let mut seed = 1;
-    let mut k = 0;
-    while k < DRAWN_PAIRS {
-        seed = compare_next(seed, PICKED_PAIRS + k, tally);
-        k += 1;
-    }
+// Every call on one pair.
+fn compare(bench: &mut Bench) {
+    draws::draw(bench, PLOT);
+    let first = operands::compare(bench, PLOT);
+    pieces::compare(bench, first);
+    outlines::compare_back(bench);
+    draws::draw(bench, ELEMENT);
+    let second = operands::compare(bench, ELEMENT);
+    operations::compare_all(bench, if first == 0 { second } else { first });
 }
 
 fn main() {
-    let mut tally = [0u64; tally::LENGTH];
-    compare_picked(&mut tally);
-    compare_drawn(&mut tally);
-    tally::write_rows(&tally);
+    let mut bench = [0; 9944];
+    let mut k = 0;
+    while k < PAIRS {
+        bench[PAIR] = k;
+        compare(&mut bench);
+        k += 1;
+    }
+    tally::write_calls(&bench);
 }

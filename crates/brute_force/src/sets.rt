@@ -1,69 +1,59 @@
-// Sets of cells on the grid, each cell looked at by itself: an octagon's cells, sums, and positions that fit.
-use crate::bounds;
+// Sets of cells, each cell looked at by itself: the cells within bounds, sums, and positions that fit.
+ghost use Prim.Native.Nat.{_<_};
+use crate::bench::BOUNDS;
+use crate::bench::Bench;
+use crate::bench::ELEMENT;
+use crate::bench::NEXT;
+use crate::bench::PLACES;
+use crate::bench::RESULT;
+use crate::bench::SETS;
+use crate::bench::SPAN;
 use crate::grid;
-use octagon::Octagon;
+use crate::grid::SIZE;
 
-// Makes every cell of a set as `value` says.
-fn fill(set: &mut [bool], value: bool) {
-    let mut i = 0;
-    while i < set.len() {
-        set[i] = value;
-        i += 1;
-    }
-}
+// Where the sets that are folded begin.
+const OF_ELEMENT: usize = SETS + ELEMENT * SPAN;
 
-// Makes a set the same as another.
-pub fn copy(from: &[bool], set: &mut [bool]) {
-    let mut i = 0;
-    while i < set.len() {
-        set[i] = has(from, i);
-        i += 1;
-    }
-}
+const OF_RESULT: usize = SETS + RESULT * SPAN;
 
-// The cells within eight bounds.
-pub fn within(o: Octagon, set: &mut [bool]) {
-    let mut i = 0;
-    while i < set.len() {
-        set[i] = bounds::contains(o, grid::column(i), grid::row(i));
-        i += 1;
-    }
-}
+const OF_NEXT: usize = SETS + NEXT * SPAN;
 
-// The number of cells of a set.
-pub fn count(set: &[bool]) -> usize {
-    let mut n: usize = 0;
-    let mut i = 0;
-    while i < set.len() {
-        if set[i] {
-            n += 1;
+// Whether a cell of the window at a place is within the bounds of a row.
+fn contains(bench: &Bench, row: usize, place: usize, cell: usize) -> bool
+    requires { ⌜ row < 336 ⌝ }
+{
+    let mut k = 0;
+    while k < 8 {
+        if bench[row + k] < grid::form(k, place, cell) {
+            return false;
         }
-        i += 1;
+        k += 1;
     }
-    n
+    true
 }
 
-// The tightest bounds round a set: the maxima of the eight forms over its cells.
-pub fn tightest(set: &[bool]) -> Octagon {
-    let mut o = bounds::NOWHERE;
+// Makes a set the cells within the bounds of a row, in the window at a place.
+pub fn enumerate(bench: &mut Bench, row: usize, set: usize, place: usize)
+    requires { ⌜ row < 336 ⌝ }
+    requires { ⌜ set < 4 ⌝ }
+{
+    bench[PLACES + set] = place;
     let mut i = 0;
-    while i < set.len() {
-        if set[i] {
-            o = bounds::widened(o, grid::column(i), grid::row(i));
-        }
+    while i < SIZE {
+        bench[SETS + set * SPAN + i] = contains(bench, row, place, i) as usize;
         i += 1;
     }
-    o
 }
 
-// Whether two sets have the same cells.
-pub fn is_same(a: &[bool], b: &[bool]) -> bool {
-    if a.len() != b.len() {
-        return false;
-    }
+// Whether a set has just the cells within the bounds of a row.
+pub fn is_within(bench: &Bench, row: usize, set: usize) -> bool
+    requires { ⌜ row < 336 ⌝ }
+    requires { ⌜ set < 4 ⌝ }
+{
+    let place = bench[PLACES + set];
     let mut i = 0;
-    while i < a.len() {
-        if a[i] != b[i] {
+    while i < SIZE {
+        if bench[SETS + set * SPAN + i] != contains(bench, row, place, i) as usize {
             return false;
         }
         i += 1;
@@ -71,81 +61,86 @@ pub fn is_same(a: &[bool], b: &[bool]) -> bool {
     true
 }
 
-// Whether the cell at an index is in a set.
-fn has(set: &[bool], at: usize) -> bool {
-    if at < set.len() { set[at] } else { false }
-}
-
-fn put(set: &mut [bool], at: usize, value: bool) {
-    if at < set.len() {
-        set[at] = value;
-    }
-}
-
-// Puts a cell of a set, moved by the cell at `by`, into `sums`.
-fn include(set: &[bool], at: usize, by: usize, sums: &mut [bool]) {
-    if has(set, at) {
-        put(sums, grid::sum(at, by), true);
-    }
-}
-
-fn include_all(set: &[bool], by: usize, sums: &mut [bool]) {
+// The number of cells of a set.
+pub fn count(bench: &Bench, set: usize) -> usize
+    requires { ⌜ set < 4 ⌝ }
+{
+    let mut n: usize = 0;
     let mut i = 0;
-    while i < set.len() {
-        include(set, i, by, sums);
+    while i < SIZE {
+        if bench[SETS + set * SPAN + i] == 1 {
+            n += 1;
+        }
         i += 1;
     }
+    n
 }
 
-// The sums of a cell of a set and a cell of the element.
-pub fn dilate(set: &[bool], element: &[bool], sums: &mut [bool]) {
-    fill(sums, false);
+fn greater(a: usize, b: usize) -> usize {
+    if a < b { b } else { a }
+}
+
+// The greatest that the left side of inequality k is on a set, or 0 where the set has no cell.
+fn greatest(bench: &Bench, set: usize, k: usize) -> usize
+    requires { ⌜ set < 4 ⌝ }
+{
+    let place = bench[PLACES + set];
+    let mut most = 0;
     let mut i = 0;
-    while i < element.len() {
-        if element[i] {
-            include_all(set, i, sums);
+    while i < SIZE {
+        if bench[SETS + set * SPAN + i] == 1 {
+            most = greater(most, grid::form(k, place, i));
+        }
+        i += 1;
+    }
+    most
+}
+
+// Makes the bounds the tightest round a set.
+pub fn tighten(bench: &mut Bench, set: usize)
+    requires { ⌜ set < 4 ⌝ }
+{
+    let mut k = 0;
+    while k < 8 {
+        bench[BOUNDS + k] = greatest(bench, set, k);
+        k += 1;
+    }
+}
+
+// Every cell beside one of the element: a dilation has its sum if it is in the result, an erosion keeps it if its sum is.
+fn visit(bench: &mut Bench, erodes: bool, by: usize) {
+    let mut i = 0;
+    while i < SIZE {
+        if erodes {
+            let to = grid::sum(i, by);
+            bench[OF_NEXT + i] = bench[OF_NEXT + i] & bench[OF_RESULT + to];
+        } else if bench[OF_RESULT + i] == 1 {
+            let to = grid::sum(i, by);
+            bench[OF_NEXT + to] = 1;
         }
         i += 1;
     }
 }
 
-// Keeps a position if, moved by the cell at `by`, it is in a set.
-fn keep(set: &[bool], at: usize, by: usize, positions: &mut [bool]) {
-    if has(positions, at) {
-        put(positions, at, has(set, grid::sum(at, by)));
-    }
-}
-
-fn keep_all(set: &[bool], by: usize, positions: &mut [bool]) {
+// Dilates the result once by the element: the sums of a cell of each. Or erodes it once: the positions p with p + f in the result for
+// every cell f of the element.
+pub fn fold(bench: &mut Bench, erodes: bool) {
     let mut i = 0;
-    while i < positions.len() {
-        keep(set, i, by, positions);
+    while i < SIZE {
+        bench[OF_NEXT + i] = erodes as usize;
         i += 1;
     }
-}
-
-// The positions p with p + f in a set for every cell f of the element.
-pub fn erode(set: &[bool], element: &[bool], positions: &mut [bool]) {
-    fill(positions, true);
-    let mut i = 0;
-    while i < element.len() {
-        if element[i] {
-            keep_all(set, i, positions);
+    let mut f = 0;
+    while f < SIZE {
+        if bench[OF_ELEMENT + f] == 1 {
+            visit(bench, erodes, f);
         }
-        i += 1;
+        f += 1;
     }
-}
-
-// A set dilated once more.
-pub fn dilate_more(set: &mut [bool], element: &[bool]) {
-    let mut next = [false; grid::SIZE];
-    dilate(set, element, &mut next);
-    copy(&next, set);
-}
-
-// A set eroded once more.
-pub fn erode_more(set: &mut [bool], element: &[bool]) {
-    let mut next = [false; grid::SIZE];
-    erode(set, element, &mut next);
-    copy(&next, set);
+    let mut j = 0;
+    while j < SIZE {
+        bench[OF_RESULT + j] = bench[OF_NEXT + j];
+        j += 1;
+    }
+    bench[PLACES + RESULT] = grid::moved(erodes, bench[PLACES + RESULT], bench[PLACES + ELEMENT]);
 }

@@ -1,138 +1,122 @@
-// The tally of the comparisons: a row of numbers for each kind of call.
-use crate::grid;
+// The tally of the comparisons, in the bench's first rows, one for each call.
+ghost use Prim.Native.Nat.{_<_};
+use crate::bench::Bench;
+use crate::bench::EXPECTED;
+use crate::bench::NUMBER;
+use crate::bench::PAIR;
+use crate::bench::get;
 use libc::STDOUT_FILENO;
 
-pub const NORMALISE: u8 = 0;
+pub const NORMALISE: usize = 0;
 
-pub const COUNT: u8 = 1;
+pub const COUNT_CELLS: usize = 1;
 
-pub const DILATE: u8 = 2;
+pub const TO_OUTLINE: usize = 2;
 
-pub const ERODE: u8 = 3;
+pub const VERTEX_PLACE: usize = 3;
 
-pub const OPENING: u8 = 4;
+pub const TO_OCTAGON: usize = 4;
 
-pub const CLOSING: u8 = 5;
+pub const DECOMPOSE: usize = 5;
 
-pub const DILATE_N: u8 = 6;
+// An operation that begins with an erosion stands after the one that begins with a dilation.
+pub const DILATE: usize = 6;
 
-pub const ERODE_N: u8 = 7;
+pub const ERODE: usize = 7;
 
-pub const SPLIT: u8 = 8;
+pub const CLOSING: usize = 8;
 
-const KINDS: u8 = 9;
+pub const OPENING: usize = 9;
 
-// A row's numbers: how often each answer was expected, accepted ones as 0 and others by their refusal; how many answers
-// agreed, and how many did not; a digest of the expected sets.
-const AGREED: u8 = 8;
+pub const DILATE_N: usize = 10;
 
-const DISAGREED: u8 = 9;
+pub const CALLS: usize = 12;
 
-const DIGEST: u8 = 10;
+// A call's numbers: how often each answer was expected, accepted ones as 0 and others by their refusal; how many answers agreed; a
+// digest of what was expected.
+const AGREED: usize = 8;
 
-const COLUMNS: usize = 11;
+const DIGEST: usize = 9;
 
-pub const LENGTH: usize = 99;
+const COLUMNS: usize = 10;
 
-// Where a number stands.
-fn place(kind: u8, column: u8) -> usize {
-    kind as usize * COLUMNS + column as usize
-}
+const PRIME: usize = 1000000007;
 
-fn read(tally: &[u64], kind: u8, column: u8) -> u64 {
-    let at = place(kind, column);
-    if at < tally.len() { tally[at] } else { 0 }
-}
-
-fn write(tally: &mut [u64], kind: u8, column: u8, value: u64) {
-    let at = place(kind, column);
-    if at < tally.len() {
-        tally[at] = value;
-    }
-}
-
-fn increment(tally: &mut [u64], kind: u8, column: u8) {
-    let n = read(tally, kind, column);
-    write(tally, kind, column, std::num::wrapping_add_u64(n, 1));
-}
-
-// The column of an answer.
-fn answered(number: u32) -> u8 {
-    if number < 8 { number as u8 } else { 7 }
-}
-
-const PRIME: u64 = 1000000007;
-
-fn mixed(digest: u64, value: u64) -> u64 {
-    (digest % PRIME * 31 + value % PRIME) % PRIME
-}
-
-// A digest, with the cells of a set mixed in.
-fn digested(digest: u64, set: &[bool]) -> u64 {
+// A digest, with what is expected mixed in.
+fn digested(bench: &Bench, digest: usize) -> usize {
     let mut d = digest;
-    let mut i = 0;
-    while i < set.len() {
-        if set[i] {
-            d = mixed(d, i as u64);
-        }
-        i += 1;
+    let mut k = 0;
+    while k < 11 {
+        d = (d % PRIME * 31 + bench[EXPECTED + k] % PRIME) % PRIME;
+        k += 1;
     }
-    mixed(d, grid::SIZE as u64)
+    d
 }
 
-fn write_kind(kind: u8) {
-    match kind {
-        NORMALISE => io::write_all(STDOUT_FILENO, b"normalise "),
-        COUNT => io::write_all(STDOUT_FILENO, b"count "),
-        DILATE => io::write_all(STDOUT_FILENO, b"dilate "),
-        ERODE => io::write_all(STDOUT_FILENO, b"erode "),
-        OPENING => io::write_all(STDOUT_FILENO, b"opening "),
-        CLOSING => io::write_all(STDOUT_FILENO, b"closing "),
-        DILATE_N => io::write_all(STDOUT_FILENO, b"dilate_n "),
-        ERODE_N => io::write_all(STDOUT_FILENO, b"erode_n "),
-        _ => io::write_all(STDOUT_FILENO, b"split "),
+// Writes one of the names, each of 12 bytes.
+fn write_part(names: &[u8], call: usize) {
+    let from = call % CALLS * 12;
+    if from + 12 <= names.len() {
+        io::write_all(STDOUT_FILENO, &names[from..from + 12]);
     }
-    ;
 }
 
-fn write_number(tally: &[u64], kind: u8, column: u8, unit: &[u8]) {
-    io::print_decimal(STDOUT_FILENO, read(tally, kind, column));
-    io::write_all(STDOUT_FILENO, unit);
+fn write_name(call: usize) {
+    write_part(
+        b"normalise   count_cells to_outline  vertex_placeto_octagon  decompose   dilate      erode       closing     opening     dilate_n    erode_n     ",
+        call,
+    );
 }
 
-fn write_disagreement(kind: u8, pair: usize, agrees: bool) {
+fn write_number(n: usize) {
+    io::write_all(STDOUT_FILENO, b" ");
+    io::print_decimal(STDOUT_FILENO, n as u64);
+}
+
+fn write_disagreement(call: usize, pair: usize) {
+    io::write_all(STDOUT_FILENO, b"disagree ");
+    write_name(call);
+    write_number(pair);
+    io::write_all(STDOUT_FILENO, b"\n");
+}
+
+// Notes whether the answer to a call agrees with what is expected.
+pub fn note(bench: &mut Bench, call: usize, agrees: bool)
+    requires { ⌜ call < 12 ⌝ }
+{
+    let row = call * 16;
+    let answer = row + bench[NUMBER] % 8;
+    let agreed = row + AGREED;
+    bench[row + DIGEST] = digested(bench, get(bench, row, DIGEST));
+    bench[answer] = std::num::wrapping_add_usize(get(bench, answer, 0), 1);
+    bench[agreed] = std::num::wrapping_add_usize(get(bench, agreed, 0), agrees as usize);
     if !agrees {
-        io::write_all(STDOUT_FILENO, b"disagree ");
-        write_kind(kind);
-        io::print_decimal(STDOUT_FILENO, pair as u64);
-        io::write_all(STDOUT_FILENO, b"\n");
+        write_disagreement(call, get(bench, PAIR, 0));
     }
 }
 
-// Notes the answer to one call: whether it agrees, and what was expected by number and set.
-pub fn note(tally: &mut [u64], kind: u8, pair: usize, agrees: bool, number: u32, set: &[bool]) {
-    increment(tally, kind, answered(number));
-    increment(tally, kind, if agrees { AGREED } else { DISAGREED });
-    let digest = digested(read(tally, kind, DIGEST), set);
-    write(tally, kind, DIGEST, digest);
-    write_disagreement(kind, pair, agrees);
+// Writes the line of a call.
+fn write_call(bench: &Bench, call: usize)
+    requires { ⌜ call < 12 ⌝ }
+{
+    write_name(call);
+    let mut k = 0;
+    while k < COLUMNS {
+        write_number(get(bench, call * 16, k));
+        k += 1;
+    }
+    io::write_all(STDOUT_FILENO, b"\n");
 }
 
-fn write_row(tally: &[u64], kind: u8) {
-    write_kind(kind);
-    write_number(tally, kind, AGREED, b" agree: ");
-    write_number(tally, kind, 0, b" accepted, ");
-    write_number(tally, kind, 1, b" refused with 1, ");
-    write_number(tally, kind, 4, b" with 4, ");
-    write_number(tally, kind, 5, b" with 5, digest ");
-    write_number(tally, kind, DIGEST, b"\n");
-}
-
-// Writes the line of each kind.
-pub fn write_rows(tally: &[u64]) {
-    let mut kind = 0;
-    while kind < KINDS {
-        write_row(tally, kind);
-        kind += 1;
+// Writes the line of each call.
+pub fn write_calls(bench: &Bench) {
+    io::write_all(
+        STDOUT_FILENO,
+        b"call         accepted, refused with 1 to 7, agreed, digest\n",
+    );
+    let mut call = 0;
+    while call < CALLS {
+        write_call(bench, call);
+        call += 1;
     }
 }

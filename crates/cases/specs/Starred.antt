@@ -14,11 +14,11 @@ use Rattle.outline.specs.Walk.{vertex}
 use Rattle.outline.specs.Tracing.{bounds-at, drawn, traced}
 use Rattle.outline.specs.Outlining.{outline-of as drawn-sides, outlined}
 use Rattle.cell_count.specs.Count.{inside}
-use Rattle.cell_count.specs.Area.{triangle, rectangle, corners, area, cell-count}
+use Rattle.cell_count.specs.Area.{triangle, rectangle, cuts, area, cell-count}
 use Rattle.morphology.specs.Operations.{sums, differences, is-rising, is-falling, are-opposed, dilation, erosion, opened}
 use Rattle.decomposition.specs.declared.Split.{Split}
-use Rattle.decomposition.specs.Splitting.{rest, triangles-of, with-rows, first-counts, is-crossed, joined, counts, split-of as split, decomposition}
-use Rattle.cases.specs.Shorthand.{bounds, from-origin, block, three-by-three, K2, K4, K13, cell, pieces, spread, trim, open-by}
+use Rattle.decomposition.specs.Splitting.{rest, triangles-of, with-rows, first-counts, is-crossed, with-k13, counts, split-of as split, decomposition}
+use Rattle.cases.specs.Shorthand.{bounds, outlined-by, block, three-by-three, K2, K4, K13, cell, split-by, spread, trim, open-by}
 
 -- an answer of one of the calls
 pub data Result : Type 0 where
@@ -51,10 +51,10 @@ starred =
     -- c1=0 c5=0 c3=1 c7=-1, others 5: refusal 1.
     is (octagon-of (normalised (bounds (pos 5) (pos 0) (pos 5) (pos 1) (pos 5) (pos 0) (pos 5) (negsuc 0)))) (octagon-of (refused 1)) ∷
     -- Outline n0=1 alone: 3.
-    is (octagon-of (traced (from-origin 1 0 0 0 0 0 0 0))) (octagon-of (refused 3)) ∷
+    is (octagon-of (traced (outlined-by 1 0 0 0 0 0 0 0))) (octagon-of (refused 3)) ∷
     -- Block n0=2 n2=1 n4=2 n6=1 at (0,0), 6 cells, spread by K13: sides 2 1 1 1 2 1 1 1, 16 cells.
     is (cells-of (then (traced block) cell-count)) (cells-of (accepted 6)) ∷
-    is (outline-of (then (spread (traced block) K13) outlined)) (outline-of (accepted (from-origin 2 1 1 1 2 1 1 1))) ∷
+    is (outline-of (then (spread (traced block) K13) outlined)) (outline-of (accepted (outlined-by 2 1 1 1 2 1 1 1))) ∷
     is (cells-of (then (spread (traced block) K13) cell-count)) (cells-of (accepted 16)) ∷
     -- That spread trimmed by K13 is the block again.
     is (octagon-of (trim (spread (traced block) K13) K13)) (octagon-of (traced block)) ∷
@@ -67,11 +67,11 @@ starred =
     -- Cell (-16000,0) trimmed by cell (1,0): 2.
     is (octagon-of (trim (traced (cell (negsuc 15999) (pos 0))) (cell (pos 1) (pos 0)))) (octagon-of (refused 2)) ∷
     -- Sides 0 2 0 2 0 2 0 2 split as one each of K2, K4, K13. Sides 3 0 1 1 0 2 0 0 split as one K5 and one K9.
-    is (split-of (then (traced (from-origin 0 2 0 2 0 2 0 2)) decomposition)) (split-of (accepted (pieces 0 1 0 1 0 0 0 0 0 0 0 0 1))) ∷
-    is (split-of (then (traced (from-origin 3 0 1 1 0 2 0 0)) decomposition)) (split-of (accepted (pieces 0 0 0 0 1 0 0 0 1 0 0 0 0))) ∷
+    is (split-of (then (traced (outlined-by 0 2 0 2 0 2 0 2)) decomposition)) (split-of (accepted (split-by 0 1 0 1 0 0 0 0 0 0 0 0 1))) ∷
+    is (split-of (then (traced (outlined-by 3 0 1 1 0 2 0 0)) decomposition)) (split-of (accepted (split-by 0 0 0 0 1 0 0 0 1 0 0 0 0))) ∷
     []
 
 -- each gives what document 01 says
 pub starred-cases : map (λ c. c .given) starred ≡ map (λ c. c .expected) starred
-unfolding starred normalised normal-form tight-odd tight-even even-bound odd-bound minℤ halfℤ has-cell placed is-on-map sides traced closes drawn bounds-at vertex outlined drawn-sides inside cell-count area rectangle corners triangle dilation erosion opened sums differences are-opposed is-rising is-falling decomposition split rest triangles-of with-rows first-counts is-crossed joined counts
+unfolding starred normalised normal-form tight-odd tight-even even-bound odd-bound minℤ halfℤ has-cell placed is-on-map sides traced closes drawn bounds-at vertex outlined drawn-sides inside cell-count area rectangle cuts triangle dilation erosion opened sums differences are-opposed is-rising is-falling decomposition split rest triangles-of with-rows first-counts is-crossed with-k13 counts
 starred-cases = refl

@@ -1,132 +1,35 @@
-// The squared-paper cases of document 01 that are run, and `normalise` at extreme bounds. The starred cases are proved in specs/Starred.antt.
+// The squared-paper cases of document 01 that are run, the README's example, and `normalise` at extreme bounds, each beside a set of cells
+// that is enumerated here. The starred cases are proved in specs/Starred.antt.
 //
-// Prints one line a case: the answer, and where it is an octagon its bounds and its cell count. tests/cases.py works the expected lines
-// out on its own, by sets of cells.
+// What is expected comes from the eight inequalities, the steps and the set definitions alone. A line has the answer, then what the cells
+// say, then whether the two agree. An octagon too large to enumerate has the answer alone. tests/cases.py works the lines out on its own.
+mod beside;
+mod operands;
 mod print;
+mod sets;
+mod signed;
 
+use beside::tell;
+use beside::verdict;
 use cell_count::Count;
 use octagon::Answer;
 use octagon::Octagon;
+use operands::BESIDE;
+use operands::BLOCK;
+use operands::EDGE;
+use operands::EXTREMES;
+use operands::FRAME;
+use operands::K13;
+use operands::ORIGIN;
+use operands::PLOT;
+use operands::octagon;
+use outline::Located;
 use outline::Outline;
-use print::answer;
-use print::end;
 use print::text;
-
-const MIN: i32 = -2147483648;
-
-const MAX: i32 = 2147483647;
-
-// The outline of a start and eight sides.
-fn outline_at(
-    i: i32,
-    j: i32,
-    n0: u32,
-    n1: u32,
-    n2: u32,
-    n3: u32,
-    n4: u32,
-    n5: u32,
-    n6: u32,
-    n7: u32,
-) -> Outline {
-    Outline {
-        i,
-        j,
-        n0,
-        n1,
-        n2,
-        n3,
-        n4,
-        n5,
-        n6,
-        n7,
-    }
-}
-
-// The row of K13 in the table of pieces.
-const K13: usize = 12;
-
-// The octagon of an outline, which every caller here keeps closed and on the map.
-fn octagon_of(o: Outline) -> Octagon {
-    match outline::to_octagon(o) {
-        Answer::Octagon(a) => a,
-        Answer::Refused(_) => Octagon::ORIGIN,
-    }
-}
-
-// One cell.
-fn at(x: i32, y: i32) -> Octagon {
-    octagon_of(outline_at(x, y, 0, 0, 0, 0, 0, 0, 0, 0))
-}
-
-fn edge_of_the_map() {
-    text(b"cell (16000,0) spread by (0,0): ");
-    answer(morphology::dilate(at(16000, 0), at(0, 0)));
-    text(b"cell (16000,0) spread by (1,0): ");
-    answer(morphology::dilate(at(16000, 0), at(1, 0)));
-}
-
-fn fold_limit() {
-    text(b"origin spread 65535 times by itself: ");
-    answer(morphology::folds::dilate_n(Octagon::ORIGIN, Octagon::ORIGIN, 65535));
-    text(b"origin spread 65536 times by itself: ");
-    answer(morphology::folds::dilate_n(Octagon::ORIGIN, Octagon::ORIGIN, 65536));
-}
-
-// Whether a place is 0.75 east and 0.25 north.
-fn tell_place(l: outline::Located) {
-    match l {
-        outline::Located::Place(p) => {
-            if p.east == 0.75 && p.north == 0.25 {
-                text(b"yes");
-            } else {
-                text(b"no");
-            }
-        }
-        outline::Located::Refused(_) => text(b"refused"),
-    }
-    end();
-}
-
-fn corner_in_metres() {
-    let block = octagon_of(outline_at(0, 0, 2, 0, 1, 0, 2, 0, 1, 0));
-    let spread = morphology::dilate(block, octagon_of(decomposition::piece(K13)));
-    text(b"the block spread by K13: ");
-    answer(spread);
-    let Answer::Octagon(o) = spread else {
-        return;
-    };
-    text(b"its corner 2 is 0.75 east, 0.25 north: ");
-    tell_place(outline::vertex_place(o, 2));
-}
-
-fn extreme(c0: i32, c1: i32, c2: i32, c3: i32, c4: i32, c5: i32, c6: i32, c7: i32) {
-    let o = Octagon::new(c0, c1, c2, c3, c4, c5, c6, c7);
-    text(b"normalise ");
-    print::bounds(o);
-    text(b": ");
-    answer(octagon::normalise(o));
-}
-
-fn extremes() {
-    extreme(MIN, MIN, MIN, MIN, MIN, MIN, MIN, MIN);
-    extreme(MAX, MAX, MAX, MAX, MAX, MAX, MAX, MAX);
-    extreme(MAX, MIN, MAX, MIN, MAX, MIN, MAX, MIN);
-    extreme(MIN, MAX, MIN, MAX, MIN, MAX, MIN, MAX);
-    extreme(MIN, MIN, MAX, MAX, MAX, MAX, MAX, MAX);
-    extreme(MAX, MAX, MAX, MAX, MIN, MIN, MIN, MIN);
-    extreme(MAX, MAX, MIN, MAX, MAX, MAX, MAX, MAX);
-}
-
-fn extremes_beside_others() {
-    extreme(16000, MAX, 16000, MAX, 16000, MAX, 16000, MAX);
-    extreme(16000, MAX, 16001, MAX, 16000, MAX, 16000, MAX);
-    extreme(MAX, 0, MAX, 1, MAX, 0, MAX, -1);
-    extreme(MAX, 0, MAX, 0, MAX, 0, MAX, 0);
-    extreme(MAX, -3, MAX, MAX, MAX, 3, 0, 7);
-    extreme(-5, -3, MAX, MAX, 5, MAX, 0, -7);
-    extreme(MAX, 7, MAX, 8, MAX, 7, MAX, 8);
-}
+use sets::Set;
+use sets::cells;
+use sets::positions;
+use sets::sums;
 
 // The price list's figure: the cells of a plot that a frame can open, or the number of a refusal.
 fn figure(surveyed: Outline, frame: Octagon) -> Count {
@@ -139,20 +42,145 @@ fn figure(surveyed: Outline, frame: Octagon) -> Count {
     }
 }
 
+// The plot as it is surveyed.
+const SURVEYED: Outline = Outline {
+    i: 0,
+    j: 0,
+    n0: 0,
+    n1: 2,
+    n2: 0,
+    n3: 2,
+    n4: 0,
+    n5: 2,
+    n6: 0,
+    n7: 2,
+};
+
+fn tell_figure(opened: Set) {
+    let count = figure(SURVEYED, octagon(FRAME));
+    text(b"the price list's figure");
+    print::count(count);
+    verdict(beside::has_count(opened, count));
+}
+
 // The worked example of the README: a plot, a frame of 2 by 2 cells, its positions, the ground that it opens, and the figure.
 fn worked_example() {
-    let surveyed = outline_at(0, 0, 0, 2, 0, 2, 0, 2, 0, 2);
-    let plot = octagon_of(surveyed);
-    let frame = octagon_of(outline_at(0, 0, 1, 0, 1, 0, 1, 0, 1, 0));
-    text(b"plot: ");
-    answer(octagon::normalise(plot));
-    text(b"positions of the frame: ");
-    answer(morphology::erode(plot, frame));
-    text(b"ground that it opens: ");
-    answer(morphology::opening(plot, frame));
-    text(b"the price list's figure");
-    print::count(figure(surveyed, frame));
-    end();
+    let plot = octagon(PLOT);
+    let frame = octagon(FRAME);
+    let frame_cells = cells(FRAME, 2, 0);
+    let fitting = positions(cells(PLOT, 0, 0), frame_cells);
+    text(b"plot:");
+    tell(octagon::normalise(plot), cells(PLOT, 0, 0), 1);
+    text(b"positions of the frame:");
+    tell(morphology::erode(plot, frame), fitting, 5);
+    text(b"ground that it opens:");
+    tell(
+        morphology::opening(plot, frame),
+        sums(fitting, frame_cells),
+        5,
+    );
+    tell_figure(sums(fitting, frame_cells));
+}
+
+fn edge_of_the_map() {
+    let edge = octagon(EDGE);
+    let edge_cells = cells(EDGE, 16000, 0);
+    text(b"cell (16000,0) spread by (0,0):");
+    tell(
+        morphology::dilate(edge, octagon(ORIGIN)),
+        sums(edge_cells, cells(ORIGIN, 0, 0)),
+        5,
+    );
+    text(b"cell (16000,0) spread by (1,0):");
+    tell(
+        morphology::dilate(edge, octagon(BESIDE)),
+        sums(edge_cells, cells(BESIDE, 0, 0)),
+        5,
+    );
+}
+
+// The origin spread n times by itself.
+fn folded(n: u32) -> Answer {
+    morphology::folds::dilate_n(Octagon::ORIGIN, Octagon::ORIGIN, n)
+}
+
+// One spread leaves the origin's cells as they are, so they are those of any number of spreads.
+fn fold_limit() {
+    let origin = cells(ORIGIN, 2, 0);
+    let spread = sums(origin, origin);
+    text(b"origin spread once by itself has the same cells");
+    verdict((spread.bits == origin.bits) & (spread.x == origin.x) & (spread.y == origin.y));
+    text(b"origin spread 65535 times by itself:");
+    tell(folded(65535), spread, 5);
+    text(b"origin spread 65536 times by itself:");
+    print::answer(folded(65536));
+    verdict(beside::is_refused(folded(65536), 6));
+}
+
+// Whether a number of metres is exactly a quarter of a number of cells.
+fn is_quarter(metres: f64, cells: u64) -> bool {
+    metres * 4.0 == std::num::nearest_u64_to_f64(cells) - 4294967296.0
+}
+
+fn is_place(l: Located, x: u64, y: u64) -> bool {
+    match l {
+        Located::Place(p) => is_quarter(p.east, x) & is_quarter(p.north, y),
+        Located::Refused(_) => false,
+    }
+}
+
+fn tell_corner(spread: Octagon, s: Set) {
+    let corner = sets::corner_2(s);
+    let x = sets::column(s, corner);
+    let y = sets::row(s, corner);
+    text(b"its corner 2, in quarter metres east and north:");
+    print::signed(x);
+    print::signed(y);
+    verdict(is_place(outline::vertex_place(spread, 2), x, y));
+}
+
+fn corner_in_metres() {
+    let s = sums(cells(BLOCK, 2, 0), cells(K13, 1, 0));
+    let spread = morphology::dilate(octagon(BLOCK), octagon(K13));
+    text(b"the block spread by K13:");
+    tell(spread, s, 5);
+    let Answer::Octagon(o) = spread else {
+        return;
+    };
+    tell_corner(o, s);
+}
+
+fn normalised(operand: usize) -> Answer {
+    let o = octagon(operand);
+    text(b"normalise");
+    print::bounds(o);
+    text(b":");
+    octagon::normalise(o)
+}
+
+// Extreme bounds whose cells are none, anywhere, or too many to enumerate.
+fn extremes() {
+    let mut k = EXTREMES;
+    while k < EXTREMES + 7 {
+        print::answer(normalised(k));
+        print::end();
+        k += 1;
+    }
+}
+
+// Extreme bounds beside the cells in one window, at the map's edge for those that leave the map.
+fn extreme(operand: usize, x: i32, y: i32) {
+    tell(normalised(operand), cells(operand, x, y), 1);
+}
+
+fn extremes_beside_others() {
+    extreme(EXTREMES + 7, 16000, 0);
+    extreme(EXTREMES + 8, 16000, 0);
+    extreme(EXTREMES + 9, 15998, 16000);
+    extreme(EXTREMES + 10, 0, -3);
+    extreme(EXTREMES + 11, 0, -3);
+    extreme(EXTREMES + 12, 2, 2);
+    extreme(EXTREMES + 13, -1, -4);
 }
 
 fn main() {

@@ -1,4 +1,8 @@
 // Text, numbers and answers on standard output.
+use crate::sets;
+use crate::sets::Set;
+use crate::signed::LIFT;
+use crate::signed::lifted;
 use cell_count::Count;
 use libc::STDOUT_FILENO;
 use octagon::Answer;
@@ -12,52 +16,72 @@ pub fn end() {
     text(b"\n");
 }
 
-fn number(z: i32) {
-    if z < 0 {
-        text(b"-");
-    }
-    io::print_decimal(STDOUT_FILENO, integers::magnitude(z));
+fn natural(n: u64) {
+    io::print_decimal(STDOUT_FILENO, n);
 }
 
-fn after_space(z: i32) {
+// A signed number and a space before it.
+pub fn signed(n: u64) {
     text(b" ");
-    number(z);
+    if n < LIFT {
+        text(b"-");
+        natural(LIFT - n);
+    } else {
+        natural(n - LIFT);
+    }
 }
 
-// Eight bounds, with spaces between.
+fn bound(c: i32) {
+    signed(lifted(c));
+}
+
+// Eight bounds.
 pub fn bounds(o: Octagon) {
-    number(o.c0);
-    after_space(o.c1);
-    after_space(o.c2);
-    after_space(o.c3);
-    after_space(o.c4);
-    after_space(o.c5);
-    after_space(o.c6);
-    after_space(o.c7);
+    bound(o.c0);
+    bound(o.c1);
+    bound(o.c2);
+    bound(o.c3);
+    bound(o.c4);
+    bound(o.c5);
+    bound(o.c6);
+    bound(o.c7);
+}
+
+fn cells(n: u32) {
+    text(b", cells ");
+    natural(n as u64);
 }
 
 // A cell count.
 pub fn count(c: Count) {
     match c {
-        Count::Cells(n) => {
-            text(b", cells ");
-            io::print_decimal(STDOUT_FILENO, n as u64);
-        }
+        Count::Cells(n) => cells(n),
         Count::Refused(_) => text(b", no count"),
     }
 }
 
-// An answer, and the line's end.
+pub fn refused(number: u32) {
+    text(b" refused ");
+    natural(number as u64);
+}
+
+// An answer of the library.
 pub fn answer(a: Answer) {
     match a {
         Answer::Octagon(o) => {
             bounds(o);
             count(cell_count::count_cells(o));
         }
-        Answer::Refused(n) => {
-            text(b"refused ");
-            io::print_decimal(STDOUT_FILENO, n as u64);
-        }
+        Answer::Refused(n) => refused(n),
     }
-    end();
+}
+
+// The bounds that a set reaches, and the number of its cells.
+pub fn reached(s: Set) {
+    let mut k = 0;
+    while k < 8 {
+        signed(sets::reach(s, k));
+        k += 1;
+    }
+    cells(sets::count(s));
 }

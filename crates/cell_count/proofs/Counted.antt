@@ -9,14 +9,14 @@ use Rattle.octagon.specs.declared.Octagon.{Octagon}
 use Rattle.octagon.specs.Outcome.{Outcome, accepted, refused, then}
 use Rattle.octagon.specs.Cells.{_⊆_, _≐_, Some, In, OnMap, limit}
 use Rattle.octagon.specs.NormalForm.{normalised}
-use Rattle.octagon.proofs.Outcomes.{accepted-same, refused-same, accepted-not-refused}
-use Rattle.octagon.proofs.NormalForms.{accepted-means, accepted-when, normalised-again}
-use Rattle.cell_count.specs.Count.{without, count, inside, Square}
+use Rattle.octagon.proofs.Outcomes.{map-accepted, map-refused}
+use Rattle.octagon.proofs.NormalForms.{accepted-means, accepted-normal, accepted-near, accepted-when, normalised-again}
+use Rattle.cell_count.specs.Count.{without, count, inside, Square, Counted}
 use Rattle.cell_count.specs.Area.{area, cell-count}
 use Rattle.cell_count.proofs.Counts.{count-same, count-most, count-lost, count-some}
 use Rattle.cell_count.proofs.Inside.{inside-is, inside-most, inside-same}
-use Rattle.cell_count.proofs.Formula.{cells-and-corners}
-use Rattle.cell_count.proofs.Lengths.{accepted-normal, accepted-near, near-fits, lengths, rectangle-most}
+use Rattle.cell_count.proofs.Formula.{cells-and-cuts}
+use Rattle.cell_count.proofs.Lengths.{near-fits, lengths, rectangle-most}
 
 -- the map is the square of radius `limit`
 pub map-square : {x y : ℤ} → OnMap x y → Square limit x y
@@ -26,7 +26,7 @@ map-square o = record { west = o .west; east = o .east; south = o .south; north 
 
 own-area : (c a : Octagon) → normalised c ≡ accepted a → (r : ℕ) → limit ≤ r → area a ≡ count r (inside a)
 unfolding area
-own-area c a e r h = omega (arith, cells-and-corners r a (accepted-normal c a e) (near-fits r a h (accepted-near c a e)))
+own-area c a e r h = omega (arith, cells-and-cuts r a (accepted-normal c a e) (near-fits r a h (accepted-near c a e)))
 
 -- the formula is the number of cells within the bounds, in the map's square and in every larger one
 pub counted : (c a : Octagon) → normalised c ≡ accepted a → (r : ℕ) → limit ≤ r → area a ≡ count r (inside c)
@@ -51,30 +51,15 @@ area-some c a e =
 
 -- ---- the answer
 
-then-accepted : {A B : Type 0} (o : Outcome A) (f : A → B) (b : B) → then o (λ a. accepted (f a)) ≡ accepted b →
-    (a : A) × (o ≡ accepted a) × (f a ≡ b)
-then-accepted (accepted a) f b e = (a, refl, accepted-same e)
-then-accepted (refused k) f b e = absurd (accepted-not-refused (sym e))
-
-then-refused : {A B : Type 0} (o : Outcome A) (f : A → B) (k : ℕ) → (then o (λ a. accepted (f a)) ≡ refused k) ↔ (o ≡ refused k)
-then-refused (accepted a) f k = (λ e. absurd (accepted-not-refused e), λ e. absurd (accepted-not-refused e))
-then-refused (refused m) f k = (λ e. ap refused (refused-same e), λ e. ap refused (refused-same e))
-
 -- an accepted count is the area of the normal form
 pub count-accepted : (c : Octagon) (n : ℕ) → cell-count c ≡ accepted n → (a : Octagon) × (normalised c ≡ accepted a) × (area a ≡ n)
 unfolding cell-count
-count-accepted c n = then-accepted (normalised c) area n
+count-accepted c n = map-accepted (normalised c) area n
 
 -- refused as `normalise` refuses, and only so
 pub count-refused : (c : Octagon) (k : ℕ) → (cell-count c ≡ refused k) ↔ (normalised c ≡ refused k)
 unfolding cell-count
-count-refused c k = then-refused (normalised c) area k
-
--- what an accepted answer n for the bounds c says
-pub record Counted (c : Octagon) (n : ℕ) : Type 0 where
-  pub cells : (r : ℕ) → limit ≤ r → n ≡ count r (inside c)
-  pub some : 1 ≤ n
-  pub fits : n < 2 ^ 32
+count-refused c k = map-refused (normalised c) area k
 
 -- accepted: the number of cells within the bounds, in the map's square and in every larger one; 1 or more, and within 32 bits
 pub count-means : (c : Octagon) (n : ℕ) → cell-count c ≡ accepted n → Counted c n

@@ -1,29 +1,23 @@
--- The cells of an octagon whose sides are nought or more: with those of the four corners they are the rectangle round it.
+-- The cells of an octagon whose sides are nought or more: with those cut off they are the rectangle round it.
 -- Assumes nothing.
 use mathlib.Core.Path.{_≡_, ap}
 use Prim.Native.Nat.{ℕ, suc, _+_, _*_}
 use native.Mathlib.Omega.{arith}
-use lib.IntN.{ℤ, pos, negsuc, _+ℤ_, _-ℤ_, natAbs}
+use lib.IntN.{ℤ, pos, _+ℤ_, _-ℤ_, natAbs}
 use Rattle.integers.proofs.Parts.{up, dn, sum-parts, diff-parts}
-use Rattle.integers.proofs.Linear.{#, _⊕_, lit, _≼_, _≈_}
+use Rattle.integers.proofs.Linear.{#, _⊕_, lit, _≼_, _≈_, natural}
 use Rattle.octagon.specs.declared.Octagon.{Octagon}
 use Rattle.octagon.specs.NormalForm.{odd-side}
 use Rattle.octagon.proofs.Within.{Within, Normal, within, cell-in}
 use Rattle.octagon.proofs.Sides.{odd-is}
 use Rattle.cell_count.specs.Count.{one, at, row, count, inside}
-use Rattle.cell_count.specs.Area.{extent, rectangle, corners}
+use Rattle.cell_count.specs.Area.{extent, rectangle, cuts}
 use Rattle.cell_count.proofs.Sums.{sum-zero, sum-window}
 use Rattle.cell_count.proofs.Counts.{at-parts}
 use Rattle.cell_count.proofs.Inside.{inside-is, outside}
-use Rattle.cell_count.proofs.Rows.{Plan, Apart, Cell, cut, cut-off, row-cells, all-rows}
+use Rattle.cell_count.proofs.Rows.{Plan, Apart, Cell, taken, cut-off, row-cells, all-rows}
 
 -- ---- lengths
-
--- an integer of nought or more, as a natural number
-natural : (z : ℤ) → lit 0 ≼ # z → lit (natAbs z) ≈ # z
-unfolding up dn
-natural (pos n) h = omega arith
-natural (negsuc n) h = absurd (omega arith)
 
 pub extent-parts : (l h : ℤ) → # (l +ℤ h +ℤ pos 1) ≈ # l ⊕ # h ⊕ lit 1
 unfolding up dn
@@ -73,7 +67,7 @@ module _ (r : ℕ) (c : Octagon) (n : Normal c) (o : Fits r c) (z : Plan) (f : P
   line : ℕ → ℕ
   line j = row r (λ x. inside c x (at r j))
 
-  line-is : (j k : ℕ) → suc (j + k) ≡ z .h → line (z .low + j) + (cut (z .n5) (z .n7) j k + cut (z .n3) (z .n1) j k) ≡ z .w
+  line-is : (j k : ℕ) → suc (j + k) ≡ z .h → line (z .low + j) + (taken (z .n5) (z .n7) j k + taken (z .n3) (z .n1) j k) ≡ z .w
   unfolding line row
   line-is j k e =
       let y : ℤ = at r (z .low + j) in
@@ -120,7 +114,7 @@ plan-is r c n o = record {
   is-7 = side-is (c .c6) (c .c7) (c .c0) (n .s7);
 }
 
--- the octagon's cells with those of the corners are the rectangle's
-pub cells-and-corners : (r : ℕ) (c : Octagon) → Normal c → Fits r c → count r (inside c) + corners c ≡ rectangle c
-unfolding rectangle corners
-cells-and-corners r c n o = planned r c n o (plan r c) (plan-is r c n o)
+-- the octagon's cells with those cut off are the rectangle's
+pub cells-and-cuts : (r : ℕ) (c : Octagon) → Normal c → Fits r c → count r (inside c) + cuts c ≡ rectangle c
+unfolding rectangle cuts
+cells-and-cuts r c n o = planned r c n o (plan r c) (plan-is r c n o)

@@ -9,28 +9,28 @@ use Rattle.octagon.specs.declared.Octagon.{Octagon}
 use Rattle.octagon.specs.Cells.{_⊆_, _≐_, In}
 use Rattle.cell_count.specs.Count.{inside}
 
-test-le : (a b : ℤ) → leZ a b ≡ true → a ≤ℤ b
-test-le a b h = record { le = true-T h }
+order-told : (a b : ℤ) → leZ a b ≡ true → a ≤ℤ b
+order-told a b h = record { le = true-T h }
 
-le-test : (a b : ℤ) → a ≤ℤ b → leZ a b ≡ true
-le-test a b h = T-true (leZ a b) (h .le)
+order-test : (a b : ℤ) → a ≤ℤ b → leZ a b ≡ true
+order-test a b h = T-true (leZ a b) (h .le)
 
 -- a conjunction whose last test is of an order
-and-le : (t : Bool) (a b : ℤ) → (t && leZ a b) ≡ true → (t ≡ true) × (a ≤ℤ b)
-and-le t a b h = let p = both-true t (leZ a b) h in (p .0, test-le a b (p .1))
+and-order : (t : Bool) (a b : ℤ) → (t && leZ a b) ≡ true → (t ≡ true) × (a ≤ℤ b)
+and-order t a b h = let p = both-true t (leZ a b) h in (p .0, order-told a b (p .1))
 
 inside-in : (c : Octagon) (x y : ℤ) → inside c x y ≡ true → In c x y
 unfolding inside
 inside-in c x y h =
-    let p7 = and-le _ (negℤ x -ℤ y) (c .c7) h in
-    let p6 = and-le _ (negℤ x) (c .c6) (p7 .0) in
-    let p5 = and-le _ (negℤ x +ℤ y) (c .c5) (p6 .0) in
-    let p4 = and-le _ y (c .c4) (p5 .0) in
-    let p3 = and-le _ (x +ℤ y) (c .c3) (p4 .0) in
-    let p2 = and-le _ x (c .c2) (p3 .0) in
-    let p1 = and-le _ (x -ℤ y) (c .c1) (p2 .0) in
+    let p7 = and-order _ (negℤ x -ℤ y) (c .c7) h in
+    let p6 = and-order _ (negℤ x) (c .c6) (p7 .0) in
+    let p5 = and-order _ (negℤ x +ℤ y) (c .c5) (p6 .0) in
+    let p4 = and-order _ y (c .c4) (p5 .0) in
+    let p3 = and-order _ (x +ℤ y) (c .c3) (p4 .0) in
+    let p2 = and-order _ x (c .c2) (p3 .0) in
+    let p1 = and-order _ (x -ℤ y) (c .c1) (p2 .0) in
     record {
-      in0 = test-le (negℤ y) (c .c0) (p1 .0);
+      in0 = order-told (negℤ y) (c .c0) (p1 .0);
       in1 = p1 .1;
       in2 = p2 .1;
       in3 = p3 .1;
@@ -44,14 +44,14 @@ in-inside : (c : Octagon) (x y : ℤ) → In c x y → inside c x y ≡ true
 unfolding inside
 in-inside c x y i =
     and-true (and-true (and-true (and-true (and-true (and-true (and-true
-    (le-test (negℤ y) (c .c0) (i .in0))
-    (le-test (x -ℤ y) (c .c1) (i .in1)))
-    (le-test x (c .c2) (i .in2)))
-    (le-test (x +ℤ y) (c .c3) (i .in3)))
-    (le-test y (c .c4) (i .in4)))
-    (le-test (negℤ x +ℤ y) (c .c5) (i .in5)))
-    (le-test (negℤ x) (c .c6) (i .in6)))
-    (le-test (negℤ x -ℤ y) (c .c7) (i .in7))
+    (order-test (negℤ y) (c .c0) (i .in0))
+    (order-test (x -ℤ y) (c .c1) (i .in1)))
+    (order-test x (c .c2) (i .in2)))
+    (order-test (x +ℤ y) (c .c3) (i .in3)))
+    (order-test y (c .c4) (i .in4)))
+    (order-test (negℤ x +ℤ y) (c .c5) (i .in5)))
+    (order-test (negℤ x) (c .c6) (i .in6)))
+    (order-test (negℤ x -ℤ y) (c .c7) (i .in7))
 
 -- a cell passes the test exactly when it is a cell of the octagon
 pub inside-is : (c : Octagon) (x y : ℤ) → (inside c x y ≡ true) ↔ In c x y

@@ -12,21 +12,13 @@ use Rattle.octagon.specs.declared.Octagon.{Octagon}
 use Rattle.octagon.specs.Outcome.{accepted}
 use Rattle.octagon.specs.Cells.{limit}
 use Rattle.octagon.specs.NormalForm.{odd-side, normalised}
-use Rattle.octagon.proofs.Within.{Normal, Near}
+use Rattle.octagon.proofs.Within.{Near}
 use Rattle.octagon.proofs.Sides.{odd-is}
-use Rattle.octagon.proofs.Vertices.{reached-normal}
-use Rattle.octagon.proofs.Map.{cells-near}
-use Rattle.octagon.proofs.NormalForms.{accepted-means}
-use Rattle.cell_count.specs.Area.{triangle, extent, rectangle, corner, corners, Length}
-use Rattle.cell_count.proofs.Formula.{Fits, extent-parts, cells-and-corners}
+use Rattle.octagon.proofs.NormalForms.{accepted-normal, accepted-near}
+use Rattle.cell_count.specs.Area.{triangle, extent, rectangle, cut, cuts, MapLength}
+use Rattle.cell_count.proofs.Formula.{Fits, extent-parts, cells-and-cuts}
 
 -- ---- an accepted octagon
-
-pub accepted-normal : (c a : Octagon) → normalised c ≡ accepted a → Normal a
-accepted-normal c a e = reached-normal a (accepted-means c a e .is-normalised .reached)
-
-pub accepted-near : (c a : Octagon) → normalised c ≡ accepted a → Near a
-accepted-near c a e = cells-near a (accepted-normal c a e) (accepted-means c a e .on-the-map)
 
 -- the map, and every larger square, holds it
 pub near-fits : (r : ℕ) (a : Octagon) → limit ≤ r → Near a → Fits r a
@@ -35,34 +27,34 @@ near-fits r a h n = omega arith
 -- ---- lengths
 
 -- a length that is equal to a difference
-length-is : {z : ℤ} (d : Diff) → # z ≈ d → lit 0 ≼ d → d ≼ lit (2 * limit + 1) → Length z
+length-is : {z : ℤ} (d : Diff) → # z ≈ d → lit 0 ≼ d → d ≼ lit (2 * limit + 1) → MapLength z
 unfolding up dn
 length-is {z} d e l m = record {
   least = parts-le (pos 0) z (omega arith);
   most = parts-le z (pos (2 * limit + 1)) (omega arith);
 }
 
-pub length-at : {x z : ℤ} → x ≡ z → Length z → Length x
+pub length-at : {x z : ℤ} → x ≡ z → MapLength z → MapLength x
 length-at e h = rw e h
 
-pub length-most : (z : ℤ) → Length z → natAbs z ≤ 2 * limit + 1
+pub length-most : (z : ℤ) → MapLength z → natAbs z ≤ 2 * limit + 1
 unfolding up dn
 length-most (pos n) h = omega (arith, le-parts (h .most))
 length-most (negsuc n) h = absurd (omega (arith, le-parts (h .least)))
 
-pub length-unsigned : (z : ℤ) → Length z → T (nonNeg z)
+pub length-unsigned : (z : ℤ) → MapLength z → T (nonNeg z)
 unfolding up dn
 length-unsigned (pos n) h = tt
 length-unsigned (negsuc n) h = absurd (omega (arith, le-parts (h .least)))
 
 -- the six lengths of the formula
 pub record Lengths (a : Octagon) : Type 0 where
-  pub height : Length (a .c0 +ℤ a .c4 +ℤ pos 1)
-  pub width : Length (a .c6 +ℤ a .c2 +ℤ pos 1)
-  pub side1 : Length (odd-side (a .c0) (a .c1) (a .c2))
-  pub side3 : Length (odd-side (a .c2) (a .c3) (a .c4))
-  pub side5 : Length (odd-side (a .c4) (a .c5) (a .c6))
-  pub side7 : Length (odd-side (a .c6) (a .c7) (a .c0))
+  pub height : MapLength (a .c0 +ℤ a .c4 +ℤ pos 1)
+  pub width : MapLength (a .c6 +ℤ a .c2 +ℤ pos 1)
+  pub side1 : MapLength (odd-side (a .c0) (a .c1) (a .c2))
+  pub side3 : MapLength (odd-side (a .c2) (a .c3) (a .c4))
+  pub side5 : MapLength (odd-side (a .c4) (a .c5) (a .c6))
+  pub side7 : MapLength (odd-side (a .c6) (a .c7) (a .c0))
 
 pub lengths : (a : Octagon) → normalised a ≡ accepted a → Lengths a
 lengths a e =
@@ -79,7 +71,7 @@ lengths a e =
 
 -- ---- products
 
--- the map's cells and one column more: no product or corner is larger
+-- the map's cells and one column more: no product and no cut is larger
 abbrev pub greatest : ℕ
 greatest = (2 * limit + 1) * (2 * limit + 2)
 
@@ -87,24 +79,24 @@ pub product-most : (m n : ℕ) → m ≤ 2 * limit + 1 → n ≤ 2 * limit + 2 �
 product-most m n h k = mul-le-mul {n₁ = m} {m₁ = n} {n₂ = 2 * limit + 1} {m₂ = 2 * limit + 2} h k
 
 pub record Small (a : Octagon) : Type 0 where
-  pub small1 : corner (a .c0) (a .c1) (a .c2) ≤ greatest
-  pub small3 : corner (a .c2) (a .c3) (a .c4) ≤ greatest
-  pub small5 : corner (a .c4) (a .c5) (a .c6) ≤ greatest
-  pub small7 : corner (a .c6) (a .c7) (a .c0) ≤ greatest
+  pub small1 : cut (a .c0) (a .c1) (a .c2) ≤ greatest
+  pub small3 : cut (a .c2) (a .c3) (a .c4) ≤ greatest
+  pub small5 : cut (a .c4) (a .c5) (a .c6) ≤ greatest
+  pub small7 : cut (a .c6) (a .c7) (a .c0) ≤ greatest
 
-corner-most : (b o a : ℤ) → Length (odd-side b o a) → corner b o a ≤ greatest
+cut-most : (b o a : ℤ) → MapLength (odd-side b o a) → cut b o a ≤ greatest
 unfolding triangle
-corner-most b o a h =
+cut-most b o a h =
     let n : ℕ = natAbs (odd-side b o a) in
     let l : n ≤ 2 * limit + 1 = length-most (odd-side b o a) h in
     omega (arith, product-most n (n + 1) l (omega arith))
 
 pub small : (a : Octagon) → Lengths a → Small a
 small a l = record {
-  small1 = corner-most (a .c0) (a .c1) (a .c2) (l .side1);
-  small3 = corner-most (a .c2) (a .c3) (a .c4) (l .side3);
-  small5 = corner-most (a .c4) (a .c5) (a .c6) (l .side5);
-  small7 = corner-most (a .c6) (a .c7) (a .c0) (l .side7);
+  small1 = cut-most (a .c0) (a .c1) (a .c2) (l .side1);
+  small3 = cut-most (a .c2) (a .c3) (a .c4) (l .side3);
+  small5 = cut-most (a .c4) (a .c5) (a .c6) (l .side5);
+  small7 = cut-most (a .c6) (a .c7) (a .c0) (l .side7);
 }
 
 pub rectangle-most : (a : Octagon) → Lengths a → rectangle a ≤ greatest
@@ -113,7 +105,7 @@ rectangle-most a l =
     product-most (extent (a .c0) (a .c4)) (extent (a .c6) (a .c2)) (length-most _ (l .height))
     (omega (arith, length-most (a .c6 +ℤ a .c2 +ℤ pos 1) (l .width)))
 
--- the corners are within the rectangle
-pub corners-most : (a : Octagon) → normalised a ≡ accepted a → corners a ≤ rectangle a
-corners-most a e =
-    omega (arith, cells-and-corners limit a (accepted-normal a a e) (near-fits limit a (omega arith) (accepted-near a a e)))
+-- what is cut off is within the rectangle
+pub cuts-most : (a : Octagon) → normalised a ≡ accepted a → cuts a ≤ rectangle a
+cuts-most a e =
+    omega (arith, cells-and-cuts limit a (accepted-normal a a e) (near-fits limit a (omega arith) (accepted-near a a e)))

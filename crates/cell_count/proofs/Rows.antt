@@ -1,5 +1,5 @@
--- A rectangle without its four corners, row by row, in natural numbers: the cells left of each row stand side by side,
--- and all rows with the four corners are the rectangle. Assumes nothing.
+-- A rectangle with four triangles cut off, row by row, in natural numbers: the cells left of each row stand side by side,
+-- and all rows with the four triangles are the rectangle. Assumes nothing.
 use mathlib.Core.Path.{_≡_}
 use mathlib.Core.Bool.{Bool, true}
 use Prim.Native.Nat.{ℕ, suc, _+_, _-_, _*_, _<_, _≤_}
@@ -20,7 +20,7 @@ pub record Plan : Type 0 where
   pub n5 : ℕ
   pub n7 : ℕ
 
--- the corners do not meet
+-- the cuts do not meet
 pub record Apart (z : Plan) : Type 0 where
   pub a13 : z .n3 + z .n1 < z .h
   pub a57 : z .n5 + z .n7 < z .h
@@ -38,35 +38,35 @@ pub record Cell (z : Plan) (i j k : ℕ) : Type 0 where
 
 -- ---- one row
 
--- what an upper and a lower corner take of a row's end: one of the two takes nothing, so the sum is the greater
-abbrev pub cut : ℕ → ℕ → ℕ → ℕ → ℕ
-cut upper lower j k = (upper - k) + (lower - j)
+-- what an upper and a lower cut take of a row's end: one of the two takes nothing, so the sum is the greater
+abbrev pub taken : ℕ → ℕ → ℕ → ℕ → ℕ
+taken upper lower j k = (upper - k) + (lower - j)
 
-cut-least : (a b j k m : ℕ) → a + b ≤ j + k → a ≤ k + m → b ≤ j + m → cut a b j k ≤ m
-cut-least a b j k m h p q = omega arith
+taken-least : (a b j k m : ℕ) → a + b ≤ j + k → a ≤ k + m → b ≤ j + m → taken a b j k ≤ m
+taken-least a b j k m h p q = omega arith
 
-cut-upper : (a b j k : ℕ) → a ≤ k + cut a b j k
-cut-upper a b j k = omega arith
+taken-upper : (a b j k : ℕ) → a ≤ k + taken a b j k
+taken-upper a b j k = omega arith
 
-cut-lower : (a b j k : ℕ) → b ≤ j + cut a b j k
-cut-lower a b j k = omega arith
+taken-lower : (a b j k : ℕ) → b ≤ j + taken a b j k
+taken-lower a b j k = omega arith
 
 module _ (z : Plan) (a : Apart z) (j k : ℕ) (e : suc (j + k) ≡ z .h) where
-  room : cut (z .n5) (z .n7) j k + cut (z .n3) (z .n1) j k ≤ z .w
+  room : taken (z .n5) (z .n7) j k + taken (z .n3) (z .n1) j k ≤ z .w
   room = omega arith
 
-  below : (i : ℕ) → Cell z i j k → cut (z .n5) (z .n7) j k ≤ i - z .left
-  below i c = cut-least (z .n5) (z .n7) j k (i - z .left) (omega arith) (omega arith) (omega arith)
+  below : (i : ℕ) → Cell z i j k → taken (z .n5) (z .n7) j k ≤ i - z .left
+  below i c = taken-least (z .n5) (z .n7) j k (i - z .left) (omega arith) (omega arith) (omega arith)
 
-  above : (i : ℕ) → Cell z i j k → cut (z .n3) (z .n1) j k ≤ (z .left + z .w) - suc i
-  above i c = cut-least (z .n3) (z .n1) j k ((z .left + z .w) - suc i) (omega arith) (omega arith) (omega arith)
+  above : (i : ℕ) → Cell z i j k → taken (z .n3) (z .n1) j k ≤ (z .left + z .w) - suc i
+  above i c = taken-least (z .n3) (z .n1) j k ((z .left + z .w) - suc i) (omega arith) (omega arith) (omega arith)
 
-  -- the cells of a row, with those that the corners take, are the width
+  -- the cells of a row, with those that the cuts take, are the width
   pub row-cells : (n : ℕ) (t : ℕ → Bool) → z .left + z .w ≤ n → ((i : ℕ) → Cell z i j k → t i ≡ true) → ((i : ℕ) → t i ≡ true → Cell z i j k) →
-      sum n (λ i. one (t i)) + (cut (z .n5) (z .n7) j k + cut (z .n3) (z .n1) j k) ≡ z .w
+      sum n (λ i. one (t i)) + (taken (z .n5) (z .n7) j k + taken (z .n3) (z .n1) j k) ≡ z .w
   row-cells n t h f g =
-      go (cut (z .n5) (z .n7) j k) (cut (z .n3) (z .n1) j k) room below above
-      (cut-upper (z .n5) (z .n7) j k) (cut-lower (z .n5) (z .n7) j k) (cut-upper (z .n3) (z .n1) j k) (cut-lower (z .n3) (z .n1) j k)
+      go (taken (z .n5) (z .n7) j k) (taken (z .n3) (z .n1) j k) room below above
+      (taken-upper (z .n5) (z .n7) j k) (taken-lower (z .n5) (z .n7) j k) (taken-upper (z .n3) (z .n1) j k) (taken-lower (z .n3) (z .n1) j k)
     where
       go : (l u : ℕ) → l + u ≤ z .w → ((i : ℕ) → Cell z i j k → l ≤ i - z .left) → ((i : ℕ) → Cell z i j k → u ≤ (z .left + z .w) - suc i) →
           z .n5 ≤ k + l → z .n7 ≤ j + l → z .n3 ≤ k + u → z .n1 ≤ j + u → sum n (λ i. one (t i)) + (l + u) ≡ z .w
@@ -80,13 +80,13 @@ module _ (z : Plan) (a : Apart z) (j k : ℕ) (e : suc (j + k) ≡ z .h) where
 
 -- ---- all rows
 
--- the cells of the four corners
+-- the cells of the four cuts
 abbrev pub cut-off : Plan → ℕ
 cut-off z = triangle (z .n1) + triangle (z .n3) + (triangle (z .n5) + triangle (z .n7))
 
 module _ (z : Plan) (a : Apart z) (line : ℕ → ℕ)
-    (is : (j k : ℕ) → suc (j + k) ≡ z .h → line j + (cut (z .n5) (z .n7) j k + cut (z .n3) (z .n1) j k) ≡ z .w) where
-  -- the rows, with the four corners, are the rectangle
+    (is : (j k : ℕ) → suc (j + k) ≡ z .h → line j + (taken (z .n5) (z .n7) j k + taken (z .n3) (z .n1) j k) ≡ z .w) where
+  -- the rows, with the four cuts, are the rectangle
   pub all-rows : sum (z .h) line + cut-off z ≡ z .h * z .w
   all-rows =
       let h : ℕ = z .h in

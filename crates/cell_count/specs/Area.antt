@@ -20,23 +20,23 @@ extent low high = natAbs (low +ℤ high +ℤ pos 1)
 unfoldable pub rectangle : Octagon → ℕ
 rectangle a = extent (a .c0) (a .c4) * extent (a .c6) (a .c2)
 
--- the cells that a diagonal side cuts off a corner of it: a triangle whose legs are as long as the side
-abbrev pub corner : ℤ → ℤ → ℤ → ℕ
-corner before own after = triangle (natAbs (odd-side before own after))
+-- the cells that a diagonal side cuts off it: a triangle whose legs are as long as the side
+abbrev pub cut : ℤ → ℤ → ℤ → ℕ
+cut before own after = triangle (natAbs (odd-side before own after))
 
-unfoldable pub corners : Octagon → ℕ
-corners a =
-    corner (a .c0) (a .c1) (a .c2) + corner (a .c2) (a .c3) (a .c4) + (corner (a .c4) (a .c5) (a .c6) + corner (a .c6) (a .c7) (a .c0))
+unfoldable pub cuts : Octagon → ℕ
+cuts a =
+    cut (a .c0) (a .c1) (a .c2) + cut (a .c2) (a .c3) (a .c4) + (cut (a .c4) (a .c5) (a .c6) + cut (a .c6) (a .c7) (a .c0))
 
 -- the number of cells within normalised bounds
 unfoldable pub area : Octagon → ℕ
-area a = rectangle a - corners a
+area a = rectangle a - cuts a
 
 -- what `count_cells` answers for any eight bounds
 unfoldable pub cell-count : Octagon → Outcome ℕ
 cell-count c = then (normalised c) (λ a. accepted (area a))
 
 -- z is a length on the map: nought or more, and at most the map's width
-pub record Length (z : ℤ) : Type 0 where
+pub record MapLength (z : ℤ) : Type 0 where
   pub least : pos 0 ≤ℤ z
   pub most : z ≤ℤ pos (2 * limit + 1)

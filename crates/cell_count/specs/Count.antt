@@ -1,10 +1,12 @@
 -- The number of cells that pass a test, and the cells of an octagon as a test.
 -- This file is what a reader must believe of counts. Assumes nothing.
+use mathlib.Core.Path.{_≡_}
 use mathlib.Core.Bool.{Bool, true, false, not, _&&_, _||_}
-use Prim.Native.Nat.{ℕ, zero, suc, _+_, _*_}
+use Prim.Native.Nat.{ℕ, zero, suc, _+_, _*_, _^_, _<_, _≤_}
 use lib.IntN.{ℤ, pos, negℤ, _+ℤ_, _-ℤ_}
 use lib.Signed.{leZ, _≤ℤ_}
 use Rattle.octagon.specs.declared.Octagon.{Octagon}
+use Rattle.octagon.specs.Cells.{limit}
 
 -- ---- tests
 
@@ -58,3 +60,9 @@ pub record Square (r : ℕ) (x y : ℤ) : Type 0 where
   pub east : x ≤ℤ pos r
   pub south : negℤ (pos r) ≤ℤ y
   pub north : y ≤ℤ pos r
+
+-- n is the number of cells within the bounds c, in the map's square and in every larger one; it is 1 or more, and fits 32 bits
+pub record Counted (c : Octagon) (n : ℕ) : Type 0 where
+  pub cells : (r : ℕ) → limit ≤ r → n ≡ count r (inside c)
+  pub some : 1 ≤ n
+  pub fits : n < 2 ^ 32

@@ -1,4 +1,4 @@
-// The number of cells of an octagon, in constant time: those of the rectangle round it, less those of the four corners cut off.
+// The number of cells of an octagon, in constant time: those of the rectangle round it, less those that its four diagonal sides cut off.
 //
 // specs/Count.antt has the count by a test over cells, specs/Area.antt the formula, proofs/Counted.antt the theorems between them.
 ghost use mathlib.Core.Path.{_≡_};
@@ -21,7 +21,7 @@ pub enum Count {
 
 // A length on the map as an unsigned number.
 fn unsigned(z: i64) -> u64
-    requires { ⌜ spec.Length z ⌝ }
+    requires { ⌜ spec.MapLength z ⌝ }
     ensures { λ r. ⌜ r ≡ natAbs z ⌝ }
 {
     z as u64
@@ -29,7 +29,7 @@ fn unsigned(z: i64) -> u64
 
 // The number of columns, or of rows, from one bound to the opposite one.
 fn extent(low: i32, high: i32) -> u64
-    requires { ⌜ spec.Length (low +ℤ high +ℤ pos 1) ⌝ }
+    requires { ⌜ spec.MapLength (low +ℤ high +ℤ pos 1) ⌝ }
     ensures { λ r. ⌜ r ≡ spec.extent low high ⌝ }
 {
     unsigned((low as i64) + (high as i64) + 1)
@@ -51,18 +51,18 @@ fn triangle(n: u64) -> u64
     n * (n + 1) / 2
 }
 
-// The cells that a diagonal side cuts off a corner of the rectangle.
-fn corner(before: i32, own: i32, after: i32) -> u64
-    requires { ⌜ spec.Length («odd-side» before own after) ⌝ }
-    ensures { λ r. ⌜ r ≡ spec.corner before own after ⌝ }
+// The cells that a diagonal side cuts off the rectangle.
+fn cut(before: i32, own: i32, after: i32) -> u64
+    requires { ⌜ spec.MapLength («odd-side» before own after) ⌝ }
+    ensures { λ r. ⌜ r ≡ spec.cut before own after ⌝ }
 {
     triangle(unsigned((before as i64) + (after as i64) - (own as i64)))
 }
 
-// The cells of all four corners.
-fn corners(a: Octagon) -> u64
+// The cells that all four cut off.
+fn cuts(a: Octagon) -> u64
     requires { ⌜ normalised a ≡ accepted a ⌝ }
-    ensures { λ r. ⌜ r ≡ spec.corners a ⌝ }
+    ensures { λ r. ⌜ r ≡ spec.cuts a ⌝ }
 {
     let c0 = a.c0;
     let c1 = a.c1;
@@ -72,7 +72,7 @@ fn corners(a: Octagon) -> u64
     let c5 = a.c5;
     let c6 = a.c6;
     let c7 = a.c7;
-    corner(c0, c1, c2) + corner(c2, c3, c4) + (corner(c4, c5, c6) + corner(c6, c7, c0))
+    cut(c0, c1, c2) + cut(c2, c3, c4) + (cut(c4, c5, c6) + cut(c6, c7, c0))
 }
 
 // The number of cells within normalised bounds.
@@ -80,7 +80,7 @@ fn area(a: Octagon) -> u32
     requires { ⌜ normalised a ≡ accepted a ⌝ }
     ensures { λ r. ⌜ r ≡ spec.area a ⌝ }
 {
-    (rectangle(a) - corners(a)) as u32
+    (rectangle(a) - cuts(a)) as u32
 }
 
 // The number of cells within any eight bounds. Refuses as `normalise` does.

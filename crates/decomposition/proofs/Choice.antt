@@ -7,10 +7,10 @@ use Rattle.outline.specs.declared.Outline.{Outline}
 use Rattle.outline.specs.Closing.{Closes}
 use Rattle.decomposition.specs.declared.Counts.{Counts}
 use Rattle.decomposition.specs.Rule.{Chosen, Rule}
-use Rattle.decomposition.specs.Splitting.{rest, with-rows, first-counts, joined, counts}
+use Rattle.decomposition.specs.Splitting.{rows-and-triangles, rest, with-rows, first-counts, with-k13, counts}
 use Rattle.decomposition.proofs.Sides.{SameSides, made, makes-same, same-makes}
-use Rattle.decomposition.proofs.Rests.{Rows, leaves, half, rest-closes, with, fitting, forced}
-use Rattle.decomposition.proofs.LastStep.{last-joined, joined-made}
+use Rattle.decomposition.proofs.Rests.{Rows, leaves, half, rest-closes, with, only, fitting, forced}
+use Rattle.decomposition.proofs.LastStep.{last-with-k13, with-k13-made}
 
 -- ---- before the last step
 
@@ -73,21 +73,7 @@ unique o k f =
 
 -- the rows of o, with no triangles
 abbrev bare : Outline → Counts
-bare o = record {
-  k1 = min (o .n0) (o .n4);
-  k2 = min (o .n1) (o .n5);
-  k3 = min (o .n2) (o .n6);
-  k4 = min (o .n3) (o .n7);
-  k5 = 0;
-  k6 = 0;
-  k7 = 0;
-  k8 = 0;
-  k9 = 0;
-  k10 = 0;
-  k11 = 0;
-  k12 = 0;
-  k13 = 0;
-}
+bare o = rows-and-triangles (min (o .n0) (o .n4)) (min (o .n1) (o .n5)) (min (o .n2) (o .n6)) (min (o .n3) (o .n7)) (only 0 0 0 0 0 0 0 0)
 
 some-chosen : (o : Outline) → Closes o → (k : Counts) × Chosen o k
 some-chosen o c =
@@ -117,11 +103,11 @@ pub one-choice : (o : Outline) → Closes o → (k : Counts) → Rule o k ↔ (k
 unfolding counts
 one-choice o c k = (to, from)
   where
-    to : Rule o k → k ≡ joined (first-counts o)
-    to r = last-joined (r .before) k .0 (r .last) ∙ ap joined (unique o (r .before) (r .chosen))
+    to : Rule o k → k ≡ with-k13 (first-counts o)
+    to r = last-with-k13 (r .before) k .0 (r .last) ∙ ap with-k13 (unique o (r .before) (r .chosen))
 
-    from : k ≡ joined (first-counts o) → Rule o k
-    from e = record { before = first-counts o; chosen = chosen o c; last = last-joined (first-counts o) k .1 e }
+    from : k ≡ with-k13 (first-counts o) → Rule o k
+    from e = record { before = first-counts o; chosen = chosen o c; last = last-with-k13 (first-counts o) k .1 e }
 
 -- after the last step too the sides are all there
 pub counts-made : (o : Outline) → Closes o → SameSides (made (counts o)) o
@@ -129,5 +115,5 @@ unfolding counts
 counts-made o c =
     let f : Chosen o (first-counts o) = chosen o c in
     let s = makes-same (first-counts o) o (f .all-sides) in
-    let j = joined-made (first-counts o) (f .no-k13) in
+    let j = with-k13-made (first-counts o) (f .no-k13) in
     omega arith

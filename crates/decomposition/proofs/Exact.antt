@@ -1,20 +1,18 @@
 -- A set that is the octagon of an outline, dilated by pieces that are not opposed to it, is the octagon of the sides' sums. Assumes nothing.
 use mathlib.Core.Path.{_≡_, refl}
 use mathlib.Core.List.{List, [], _∷_}
-use mathlib.Core.Logic.{_↔_}
 use Prim.Native.Nat.{ℕ, zero, suc, _+_, _≤_}
 use native.Mathlib.Omega.{arith}
-use lib.IntN.{ℤ}
-use Rattle.integers.proofs.Parts.{eq-parts, parts-eq}
 use Rattle.octagon.specs.declared.Octagon.{Octagon}
 use Rattle.octagon.specs.Cells.{Cells, _≐_, In}
-use Rattle.octagon.proofs.Within.{Within, within, cell-in}
 use Rattle.outline.specs.declared.Outline.{Outline}
 use Rattle.outline.specs.Closing.{Closes}
 use Rattle.outline.specs.Walk.{InsideWalk}
 use Rattle.outline.specs.Tracing.{drawn}
+use Rattle.outline.specs.Meaning.{no-sides}
 use Rattle.outline.proofs.Drawn.{Drawn, closed-drawn, closed-normal}
 use Rattle.outline.proofs.Inside.{inside-walk}
+use Rattle.outline.proofs.OneCell.{no-sides-close, one-cell-drawn}
 use Rattle.morphology.specs.Sets.{Dilated, DilatedTimes}
 use Rattle.morphology.proofs.Meet.{Opposed}
 use Rattle.morphology.proofs.Sums.{sums-exact}
@@ -117,19 +115,7 @@ exact-each A (k ∷ ks) (p ∷ ps) o b e =
 -- ---- the start cell
 
 abbrev pub cell-at : Start → Outline
-cell-at s = record { i = s .i; j = s .j; n0 = 0; n1 = 0; n2 = 0; n3 = 0; n4 = 0; n5 = 0; n6 = 0; n7 = 0 }
-
-cell-closes : (s : Start) → Closes (cell-at s)
-cell-closes s = omega arith
-
-only-within : (s : Start) (c : Octagon) → Drawn (cell-at s) c → (x y : ℤ) → Only s x y ↔ Within c x y
-only-within s c d x y = (
-  λ h. omega (arith, eq-parts (h .0), eq-parts (h .1)),
-  λ i. (parts-eq x (s .i) (omega arith), parts-eq y (s .j) (omega arith)),
-)
+cell-at s = no-sides (s .i) (s .j)
 
 pub exact-start : (s : Start) → Exact (Only s) (cell-at s)
-exact-start s =
-    let k = cell-closes s in
-    let e = only-within s (drawn (cell-at s)) (closed-drawn (cell-at s) k) in
-    record { closed = k; cells = λ x y. (λ h. cell-in (e x y .0 h), λ i. e x y .1 (within i)) }
+exact-start s = record { closed = no-sides-close (s .i) (s .j); cells = one-cell-drawn (s .i) (s .j) }

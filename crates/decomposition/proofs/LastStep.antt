@@ -1,4 +1,4 @@
--- The last step of the counts: the test that the code makes says what document 01 says. Assumes nothing.
+-- The last step of the counts: the test that the code makes says what document 01 says, and all sides stay. Assumes nothing.
 use mathlib.Core.Path.{_≡_, sym, _∙_}
 use mathlib.Core.Bool.{true, false, cond, _&&_}
 use mathlib.Core.Logic.{_↔_}
@@ -9,7 +9,7 @@ use Rattle.integers.proofs.Tests.{cases, both-true, and-true, true-is-not-false
 use Rattle.outline.specs.declared.Outline.{Outline}
 use Rattle.decomposition.specs.declared.Counts.{Counts}
 use Rattle.decomposition.specs.Rule.{others, Crossed, exchanged, Last, exchange, keep}
-use Rattle.decomposition.specs.Splitting.{is-crossed, joined}
+use Rattle.decomposition.specs.Splitting.{is-crossed, with-k13}
 use Rattle.decomposition.proofs.Sides.{SameSides, made}
 
 pub test-crossed : (k : Counts) → is-crossed k ≡ true → Crossed k
@@ -28,10 +28,10 @@ unfolding is-crossed
 crossed-test k h =
     and-true (and-true (lt-ltb 0 (k .k2) (h .some-k2)) (lt-ltb 0 (k .k4) (h .some-k4))) (eq-eqb (others k) 0 (h .no-others))
 
--- what is joined is what the last step leaves, and nothing else is
-pub last-joined : (m k : Counts) → Last m k ↔ (k ≡ joined m)
-unfolding joined
-last-joined m k = cases (is-crossed m) yes no
+-- the last step leaves `with-k13`, and nothing else
+pub last-with-k13 : (m k : Counts) → Last m k ↔ (k ≡ with-k13 m)
+unfolding with-k13
+last-with-k13 m k = cases (is-crossed m) yes no
   where
     yes : is-crossed m ≡ true → Last m k ↔ (k ≡ cond (is-crossed m) (exchanged m) m)
     yes t = rw t (to, exchange (test-crossed m t))
@@ -54,6 +54,6 @@ exchanged-made k c z = omega arith
 same-refl : (o : Outline) → SameSides o o
 same-refl o = omega arith
 
-pub joined-made : (k : Counts) → k .k13 ≡ 0 → SameSides (made (joined k)) (made k)
-unfolding joined
-joined-made k z = cases (is-crossed k) (λ t. rw t (exchanged-made k (test-crossed k t) z)) (λ f. rw f (same-refl (made k)))
+pub with-k13-made : (k : Counts) → k .k13 ≡ 0 → SameSides (made (with-k13 k)) (made k)
+unfolding with-k13
+with-k13-made k z = cases (is-crossed k) (λ t. rw t (exchanged-made k (test-crossed k t) z)) (λ f. rw f (same-refl (made k)))

@@ -1,4 +1,4 @@
--- A set of cells is dilated by pieces in any order. Assumes nothing.
+-- A set that is dilated by first can as well be dilated by last. Assumes nothing.
 use mathlib.Core.Path.{_≡_, refl}
 use mathlib.Core.List.{List, [], _∷_}
 use Prim.Native.Nat.{ℕ, zero, suc}
@@ -51,7 +51,6 @@ past : (A B C : Cells) (k m : ℕ) → DilatedTimes k (DilatedTimes m A C) B ≐
 past A B C k zero = same-refl (DilatedTimes k A B)
 past A B C k (suc m) = same-trans (past-one (DilatedTimes m A C) B C k) (dilated-same (past A B C k m) (same-refl C))
 
--- a set that is dilated by first can as well be dilated by last
 pub put-last : (A B : Cells) (k : ℕ) (ms : List ℕ) (qs : List Outline) →
     DilatedByEach ms qs (DilatedTimes k A B) ≐ DilatedTimes k (DilatedByEach ms qs A) B
 put-last A B k [] qs = same-refl (DilatedTimes k A B)

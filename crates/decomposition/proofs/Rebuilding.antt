@@ -10,15 +10,16 @@ use Rattle.integers.proofs.Tests.{cases, true-is-not-false}
 use Rattle.octagon.specs.Cells.{Cells, _≐_, In}
 use Rattle.outline.specs.declared.Outline.{Outline}
 use Rattle.outline.specs.Closing.{Closes}
+use Rattle.outline.specs.Tables.{pieces, piece-sides}
 use Rattle.outline.specs.Walk.{InsideWalk}
 use Rattle.outline.specs.Tracing.{drawn}
 use Rattle.morphology.specs.Sets.{DilatedTimes}
 use Rattle.morphology.proofs.SetLaws.{same-refl, same-trans, dilated-times-same}
 use Rattle.decomposition.specs.declared.Start.{Start}
 use Rattle.decomposition.specs.declared.Counts.{Counts}
-use Rattle.decomposition.specs.Pieces.{shown, pieces, piece-of, listed, Only, DilatedByEach, Rebuilt}
-use Rattle.decomposition.specs.Rule.{others, Crossed}
-use Rattle.decomposition.specs.Splitting.{first-counts, is-crossed, joined, counts, split-of}
+use Rattle.decomposition.specs.Pieces.{outlines, piece-of, listed, Only, DilatedByEach, Rebuilt}
+use Rattle.decomposition.specs.Rule.{others, Crossed, recounted}
+use Rattle.decomposition.specs.Splitting.{first-counts, is-crossed, with-k13, counts, split-of}
 use Rattle.decomposition.proofs.Sides.{SameSides, made}
 use Rattle.decomposition.proofs.Choice.{counts-made}
 use Rattle.decomposition.proofs.LastStep.{crossed-test}
@@ -36,7 +37,7 @@ K4 = piece-of 3
 
 -- K5 to K13
 abbrev later : List Outline
-later = drop 4 pieces
+later = drop 4 outlines
 
 abbrev later-counts : Counts → List ℕ
 later-counts k = drop 4 (listed k)
@@ -49,15 +50,15 @@ broad-counts k = k .k1 ∷ k .k3 ∷ later-counts k
 
 -- (`omega` takes a goal of up to 64 parts)
 all-broad : AllBroad broads
-unfolding broads piece-of pieces shown up dn
+unfolding broads piece-of piece-sides outlines pieces up dn
 all-broad = (omega arith, (omega arith, (omega arith, (omega arith, (omega arith, omega arith)))))
 
 K2-at-origin : AtOrigin K2
-unfolding piece-of pieces shown up dn
+unfolding piece-of piece-sides outlines pieces up dn
 K2-at-origin = omega arith
 
 K4-at-origin : AtOrigin K4
-unfolding piece-of pieces shown up dn
+unfolding piece-of piece-sides outlines pieces up dn
 K4-at-origin = omega arith
 
 -- ---- the two diagonal rows are never there alone
@@ -70,24 +71,10 @@ record Alone (k : Counts) : Type 0 where
 
 -- the sides that all but the diagonal rows make
 abbrev wide : Counts → Outline
-wide k = made (record {
-  k1 = k .k1;
-  k2 = 0;
-  k3 = k .k3;
-  k4 = 0;
-  k5 = k .k5;
-  k6 = k .k6;
-  k7 = k .k7;
-  k8 = k .k8;
-  k9 = k .k9;
-  k10 = k .k10;
-  k11 = k .k11;
-  k12 = k .k12;
-  k13 = k .k13;
-})
+wide k = made (recounted k 0 0 (k .k13))
 
 each-wide : (k : Counts) (s : Start) → SameSides (plus-each (broad-counts k) broads (cell-at s)) (wide k)
-unfolding broads piece-of pieces shown
+unfolding broads piece-of piece-sides outlines pieces
 each-wide k s = omega arith
 
 -- in one diagonal direction as in the other they are one cell wide only where there are none
@@ -102,12 +89,12 @@ none k h = omega arith
 
 -- what the other pieces make is opposed to no K4
 free-k4 : (k : Counts) (o : Outline) → SameSides o (wide k) → Free o K4
-unfolding piece-of pieces shown
+unfolding piece-of piece-sides outlines pieces
 free-k4 k o w = (λ a. let z = none k (no-falls k (omega arith)) in omega arith, λ a. omega arith)
 
 -- and what these make with some K4 is opposed to no K2
 free-k2 : (k : Counts) (o : Outline) → SameSides o (wide k) → ¬ (Alone k) → 1 ≤ k .k2 → Free (plus (k .k4) K4 o) K2
-unfolding piece-of pieces shown
+unfolding piece-of piece-sides outlines pieces
 free-k2 k o w n l = (
   λ a. omega arith,
   λ a.
@@ -125,8 +112,8 @@ module _ (k : Counts) (s : Start) where
   rows-last : Cells
   rows-last = DilatedTimes (k .k2) (DilatedTimes (k .k4) broad (InsideWalk K4)) (InsideWalk K2)
 
-  put-rows-last : DilatedByEach (listed k) pieces (Only s) ≐ rows-last
-  unfolding rows-last broad broads piece-of pieces shown
+  put-rows-last : DilatedByEach (listed k) outlines (Only s) ≐ rows-last
+  unfolding rows-last broad broads piece-of piece-sides outlines pieces
   put-rows-last =
       let A = DilatedTimes (k .k1) (Only s) (InsideWalk (piece-of 0)) in
       same-trans
@@ -145,25 +132,25 @@ module _ (k : Counts) (s : Start) where
       (exact-each (Only s) (broad-counts k) broads (cell-at s) all-broad (exact-start s)))
 
   all-made : SameSides (plus (k .k2) K2 (plus (k .k4) K4 sides)) (made k)
-  unfolding broads piece-of pieces shown
+  unfolding broads piece-of piece-sides outlines pieces
   all-made = omega arith
 
   start-kept : (s .i ≡ sides .i) × (s .j ≡ sides .j)
-  unfolding broads piece-of pieces shown
+  unfolding broads piece-of piece-sides outlines pieces
   start-kept = (refl, refl)
 
 -- ---- the counts that are computed
 
-joined-whole : (k : Counts) → ¬ (Alone (joined k))
-unfolding joined
-joined-whole k = cases (is-crossed k) (λ t. rw t (λ a. omega arith)) (λ f. rw f (λ a. true-is-not-false (sym (crossed-test k (crossed a)) ∙ f)))
+with-k13-whole : (k : Counts) → ¬ (Alone (with-k13 k))
+unfolding with-k13
+with-k13-whole k = cases (is-crossed k) (λ t. rw t (λ a. omega arith)) (λ f. rw f (λ a. true-is-not-false (sym (crossed-test k (crossed a)) ∙ f)))
   where
     crossed : Alone k → Crossed k
     crossed a = omega arith
 
 counts-whole : (o : Outline) → ¬ (Alone (counts o))
 unfolding counts
-counts-whole o = joined-whole (first-counts o)
+counts-whole o = with-k13-whole (first-counts o)
 
 between : (o p q : Outline) → SameSides p o → SameSides q p → SameSides o q
 between o p q e f = omega arith

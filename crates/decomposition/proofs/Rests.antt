@@ -8,8 +8,8 @@ use Rattle.outline.specs.declared.Outline.{Outline}
 use Rattle.outline.specs.Closing.{Closes}
 use Rattle.decomposition.specs.declared.Counts.{Counts}
 use Rattle.decomposition.specs.declared.counting.Triangles.{Triangles}
-use Rattle.decomposition.specs.Rule.{count, Pair, case-i, case-ii, case-iii, case-iv, case-v, case-vi, case-vii, case-viii, triangles, TwoKinds}
-use Rattle.decomposition.specs.Splitting.{rest, triangles-of}
+use Rattle.decomposition.specs.Rule.{count-of-kind, Pair, case-i, case-ii, case-iii, case-iv, case-v, case-vi, case-vii, case-viii, triangles, TwoKinds}
+use Rattle.decomposition.specs.Splitting.{rows-and-triangles, rest, triangles-of}
 use Rattle.decomposition.proofs.Sides.{SameSides, made}
 
 -- ---- rows and what they leave
@@ -55,23 +55,9 @@ rest-closes o r k l c = omega arith
 
 -- the rows of m, and triangles
 abbrev pub with : Counts → Triangles → Counts
-with m t = record {
-  k1 = m .k1;
-  k2 = m .k2;
-  k3 = m .k3;
-  k4 = m .k4;
-  k5 = t .k5;
-  k6 = t .k6;
-  k7 = t .k7;
-  k8 = t .k8;
-  k9 = t .k9;
-  k10 = t .k10;
-  k11 = t .k11;
-  k12 = t .k12;
-  k13 = 0;
-}
+with m t = rows-and-triangles (m .k1) (m .k2) (m .k3) (m .k4) t
 
-abbrev only : ℕ → ℕ → ℕ → ℕ → ℕ → ℕ → ℕ → ℕ → Triangles
+abbrev pub only : ℕ → ℕ → ℕ → ℕ → ℕ → ℕ → ℕ → ℕ → Triangles
 only a b c d e f g h = record { k5 = a; k6 = b; k7 = c; k8 = d; k9 = e; k10 = f; k11 = g; k12 = h }
 
 -- triangles of two kinds that, with the rows of m, have the sides of o
@@ -105,7 +91,7 @@ fitting o r m l h c =
     (λ h3. fit case-vii (only 0 0 (r .n6) 0 0 (r .n7) 0 0) (omega arith) (omega arith))))
     (λ h1. fit case-v (only 0 0 0 (r .n4) 0 0 0 (r .n5)) (omega arith) (omega arith)))
   where
-    fit : {p q : ℕ} → Pair p q → (t : Triangles) → triangles (with m t) ≡ count (with m t) p + count (with m t) q → SameSides (made (with m t)) o → Fitting o m
+    fit : {p q : ℕ} → Pair p q → (t : Triangles) → triangles (with m t) ≡ count-of-kind (with m t) p + count-of-kind (with m t) q → SameSides (made (with m t)) o → Fitting o m
     fit {p} {q} c t n s = record { kinds = t; two-kinds = record { p = p; q = q; pair = c; no-others = n }; all-sides = s }
 
 -- ---- and no others do
@@ -124,7 +110,7 @@ pub forced : (o r : Outline) (k : Counts) → Leaves o r k → k .k13 ≡ 0 → 
 unfolding triangles-of
 forced o r k l z s w = go (w .pair) (w .no-others)
   where
-    go : {p q : ℕ} → Pair p q → triangles k ≡ count k p + count k q → SameTriangles k (triangles-of r)
+    go : {p q : ℕ} → Pair p q → triangles k ≡ count-of-kind k p + count-of-kind k q → SameTriangles k (triangles-of r)
     go case-i h = omega arith
     go case-ii h = omega arith
     go case-iii h = omega arith

@@ -4,10 +4,11 @@ use Prim.Native.Nat.{ℕ, _+_, _*_, _<_}
 use native.Mathlib.Omega.{arith}
 use lib.IntN.{pos}
 use Rattle.outline.specs.declared.Outline.{Outline}
+use Rattle.outline.specs.Tables.{pieces}
 use Rattle.outline.specs.Walk.{side}
 use Rattle.outline.proofs.Steps.{eight}
 use Rattle.decomposition.specs.declared.Counts.{Counts}
-use Rattle.decomposition.specs.Pieces.{shown, pieces, listed}
+use Rattle.decomposition.specs.Pieces.{outlines, listed}
 use Rattle.decomposition.specs.Rule.{together}
 
 -- two outlines with the same sides
@@ -36,15 +37,15 @@ made k = record {
   n7 = k .k4 + k .k8 + k .k10 + k .k12 + k .k13;
 }
 
-made-sides : (k : Counts) (m : ℕ) → m < 8 → together (listed k) pieces m ≡ side (made k) m
-unfolding pieces shown
+made-sides : (k : Counts) (m : ℕ) → m < 8 → together (listed k) outlines m ≡ side (made k) m
+unfolding outlines pieces
 made-sides k =
-    eight (λ m. together (listed k) pieces m ≡ side (made k) m)
+    eight (λ m. together (listed k) outlines m ≡ side (made k) m)
     (omega arith) (omega arith) (omega arith) (omega arith) (omega arith) (omega arith) (omega arith) (omega arith)
 
 -- counted pieces have the sides of o
 abbrev pub Makes : Counts → Outline → Type 0
-Makes k o = (m : ℕ) → m < 8 → together (listed k) pieces m ≡ side o m
+Makes k o = (m : ℕ) → m < 8 → together (listed k) outlines m ≡ side o m
 
 module _ (k : Counts) (o : Outline) where
   pub makes-same : Makes k o → SameSides (made k) o

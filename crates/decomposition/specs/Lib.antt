@@ -1,4 +1,5 @@
--- What the contracts on decomposition cite: the pieces, document 01's rule, and the answers.
+-- What contracts and theorems on decomposition cite: the pieces, document 01's rule, the answers and what they mean.
 pub mod Pieces
 pub mod Rule
 pub mod Splitting
+pub mod Meaning

@@ -7,11 +7,11 @@ use lib.ListN.{getD}
 use Rattle.outline.specs.declared.Outline.{Outline}
 use Rattle.outline.specs.Walk.{side}
 use Rattle.decomposition.specs.declared.Counts.{Counts}
-use Rattle.decomposition.specs.Pieces.{pieces, listed}
+use Rattle.decomposition.specs.Pieces.{outlines, listed}
 
 -- the count of Kp
-abbrev pub count : Counts → ℕ → ℕ
-count k p = getD (listed k) (p - 1) 0
+abbrev pub count-of-kind : Counts → ℕ → ℕ
+count-of-kind k p = getD (listed k) (p - 1) 0
 
 -- the length of side m that counted pieces have together
 abbrev pub together : List ℕ → List Outline → ℕ → ℕ
@@ -41,7 +41,7 @@ pub record TwoKinds (k : Counts) : Type 0 where
   pub p : ℕ
   pub q : ℕ
   pub pair : Pair p q
-  pub no-others : triangles k ≡ count k p + count k q
+  pub no-others : triangles k ≡ count-of-kind k p + count-of-kind k q
 
 -- ---- "First k1 to k4 are the smaller of .. . The rest is made of .."
 
@@ -52,7 +52,7 @@ pub record Chosen (o : Outline) (k : Counts) : Type 0 where
   pub row4 : k .k4 ≡ min (o .n3) (o .n7)
   pub no-k13 : k .k13 ≡ 0
   pub two-kinds : TwoKinds k
-  pub all-sides : (m : ℕ) → m < 8 → together (listed k) pieces m ≡ side o m
+  pub all-sides : (m : ℕ) → m < 8 → together (listed k) outlines m ≡ side o m
 
 -- ---- "Last, when k2 and k4 are at least 1 and all other counts are 0, one K2 and one K4 become one K13."
 
@@ -66,13 +66,13 @@ pub record Crossed (k : Counts) : Type 0 where
   pub some-k4 : 1 ≤ k .k4
   pub no-others : others k ≡ 0
 
--- one K2 and one K4 as one K13
-abbrev pub exchanged : Counts → Counts
-exchanged k = record {
+-- the counts with so many of K2, of K4 and of K13 in place of theirs
+abbrev pub recounted : Counts → ℕ → ℕ → ℕ → Counts
+recounted k k2 k4 k13 = record {
   k1 = k .k1;
-  k2 = k .k2 - 1;
+  k2 = k2;
   k3 = k .k3;
-  k4 = k .k4 - 1;
+  k4 = k4;
   k5 = k .k5;
   k6 = k .k6;
   k7 = k .k7;
@@ -81,8 +81,12 @@ exchanged k = record {
   k10 = k .k10;
   k11 = k .k11;
   k12 = k .k12;
-  k13 = 1;
+  k13 = k13;
 }
+
+-- one K2 and one K4 as one K13
+abbrev pub exchanged : Counts → Counts
+exchanged k = recounted k (k .k2 - 1) (k .k4 - 1) 1
 
 pub data Last (before after : Counts) : Type 0 where
   exchange : Crossed before → after ≡ exchanged before → Last before after

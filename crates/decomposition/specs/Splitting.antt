@@ -1,6 +1,6 @@
 -- The decomposition of an octagon: definitions that compute. proofs/Decompositions.antt says what they mean. Assumes nothing.
 use mathlib.Core.Bool.{Bool, cond, _&&_}
-use Prim.Native.Nat.{_-_, min}
+use Prim.Native.Nat.{ℕ, _-_, min}
 use lib.Dec.{ltb, eqb}
 use lib.IntN.{pos}
 use Rattle.octagon.specs.declared.Octagon.{Octagon}
@@ -42,13 +42,13 @@ triangles-of r = record {
   k12 = min (r .n5) (r .n7);
 }
 
--- the rows of an outline, and triangles
-unfoldable pub with-rows : Outline → Triangles → Counts
-with-rows o t = record {
-  k1 = min (o .n0) (o .n4);
-  k2 = min (o .n1) (o .n5);
-  k3 = min (o .n2) (o .n6);
-  k4 = min (o .n3) (o .n7);
+-- so many of K1 to K4, triangles, and no K13
+abbrev pub rows-and-triangles : ℕ → ℕ → ℕ → ℕ → Triangles → Counts
+rows-and-triangles k1 k2 k3 k4 t = record {
+  k1 = k1;
+  k2 = k2;
+  k3 = k3;
+  k4 = k4;
   k5 = t .k5;
   k6 = t .k6;
   k7 = t .k7;
@@ -60,6 +60,10 @@ with-rows o t = record {
   k13 = 0;
 }
 
+-- the rows of an outline, and triangles
+unfoldable pub with-rows : Outline → Triangles → Counts
+with-rows o t = rows-and-triangles (min (o .n0) (o .n4)) (min (o .n1) (o .n5)) (min (o .n2) (o .n6)) (min (o .n3) (o .n7)) t
+
 -- the counts before the last step
 unfoldable pub first-counts : Outline → Counts
 first-counts o = with-rows o (triangles-of (rest o))
@@ -68,12 +72,12 @@ first-counts o = with-rows o (triangles-of (rest o))
 unfoldable pub is-crossed : Counts → Bool
 is-crossed k = ltb 0 (k .k2) && ltb 0 (k .k4) && eqb (others k) 0
 
-unfoldable pub joined : Counts → Counts
-joined k = cond (is-crossed k) (exchanged k) k
+unfoldable pub with-k13 : Counts → Counts
+with-k13 k = cond (is-crossed k) (exchanged k) k
 
 -- the counts of an outline
 unfoldable pub counts : Outline → Counts
-counts o = joined (first-counts o)
+counts o = with-k13 (first-counts o)
 
 unfoldable pub split-of : Outline → Split
 split-of o = record { start = record { i = o .i; j = o .j }; counts = counts o }

@@ -1,4 +1,4 @@
-// The counts of the pieces of an outline that closes.
+// The counts of the pieces of an outline: first the rows, then the triangles of what they leave, last K13.
 ghost use mathlib.Core.Path.{_≡_};
 ghost use Prim.Native.Nat.{_+_, _-_, min};
 ghost use Rattle.decomposition.specs.Rule as rule;
@@ -42,25 +42,17 @@ fn surplus(a: u32, b: u32) -> u32
 fn rest(o: Outline) -> Outline
     ensures { λ r. ⌜ r ≡ splitting.rest o ⌝ }
 {
-    let n0 = o.n0;
-    let n1 = o.n1;
-    let n2 = o.n2;
-    let n3 = o.n3;
-    let n4 = o.n4;
-    let n5 = o.n5;
-    let n6 = o.n6;
-    let n7 = o.n7;
     Outline {
         i: 0,
         j: 0,
-        n0: surplus(n0, n4),
-        n1: surplus(n1, n5),
-        n2: surplus(n2, n6),
-        n3: surplus(n3, n7),
-        n4: surplus(n4, n0),
-        n5: surplus(n5, n1),
-        n6: surplus(n6, n2),
-        n7: surplus(n7, n3),
+        n0: surplus(o.n0, o.n4),
+        n1: surplus(o.n1, o.n5),
+        n2: surplus(o.n2, o.n6),
+        n3: surplus(o.n3, o.n7),
+        n4: surplus(o.n4, o.n0),
+        n5: surplus(o.n5, o.n1),
+        n6: surplus(o.n6, o.n2),
+        n7: surplus(o.n7, o.n3),
     }
 }
 
@@ -68,23 +60,15 @@ fn rest(o: Outline) -> Outline
 fn count_triangles(r: Outline) -> Triangles
     ensures { λ t. ⌜ t ≡ splitting.triangles-of r ⌝ }
 {
-    let n0 = r.n0;
-    let n1 = r.n1;
-    let n2 = r.n2;
-    let n3 = r.n3;
-    let n4 = r.n4;
-    let n5 = r.n5;
-    let n6 = r.n6;
-    let n7 = r.n7;
     Triangles {
-        k5: smaller(n0, n2),
-        k6: smaller(n0, n6),
-        k7: smaller(n4, n6),
-        k8: smaller(n2, n4),
-        k9: smaller(n3, n5),
-        k10: smaller(n1, n7),
-        k11: smaller(n1, n3),
-        k12: smaller(n5, n7),
+        k5: smaller(r.n0, r.n2),
+        k6: smaller(r.n0, r.n6),
+        k7: smaller(r.n4, r.n6),
+        k8: smaller(r.n2, r.n4),
+        k9: smaller(r.n3, r.n5),
+        k10: smaller(r.n1, r.n7),
+        k11: smaller(r.n1, r.n3),
+        k12: smaller(r.n5, r.n7),
     }
 }
 
@@ -131,8 +115,8 @@ fn is_crossed(k: Counts) -> bool
 }
 
 // The last step: where K2 and K4 are there and nothing else is, one of each becomes one K13.
-fn joined(k: Counts) -> Counts
-    ensures { λ r. ⌜ r ≡ splitting.joined k ⌝ }
+fn with_k13(k: Counts) -> Counts
+    ensures { λ r. ⌜ r ≡ splitting.with-k13 k ⌝ }
 {
     if is_crossed(k) {
         return Counts {
@@ -158,5 +142,5 @@ fn joined(k: Counts) -> Counts
 pub fn count_pieces(o: Outline) -> Counts
     ensures { λ r. ⌜ r ≡ splitting.counts o ⌝ }
 {
-    joined(with_rows(o, count_triangles(rest(o))))
+    with_k13(with_rows(o, count_triangles(rest(o))))
 }

@@ -1,14 +1,14 @@
 // The decomposition of an octagon into thirteen pieces (document 01's split), in constant time.
 //
-// specs/Pieces.antt has the pieces and the set that counted pieces make, specs/Rule.antt document 01's rule for the counts,
-// specs/Splitting.antt what `decompose` answers, proofs/Decompositions.antt the theorems between them.
+// `outline::tables` has the table of the pieces, specs/Pieces.antt the set that counted pieces make, specs/Rule.antt document 01's rule
+// for the counts, specs/Splitting.antt what `decompose` answers, specs/Meaning.antt what that means, proofs/Decompositions.antt the theorems.
 ghost use mathlib.Core.Path.{_≡_};
-ghost use lib.ListN.{getD};
 ghost use Rattle.decomposition.specs.Pieces as pieces;
 ghost use Rattle.decomposition.specs.Splitting as splitting;
 use octagon::Octagon;
 use outline::Outline;
-use outline::Traced;
+use outline::Outlined;
+use outline::tables::piece_sides;
 use outline::to_outline;
 
 mod counting;
@@ -48,26 +48,9 @@ pub enum Decomposed {
     Refused(u32),
 }
 
-// Document 01's pieces K1 to K13: for each the lengths of its sides along the steps `outline::STEPS`, from (0, 0).
-pub const PIECES: [[u32; 8]; 13] = [
-    [1, 0, 0, 0, 1, 0, 0, 0],
-    [0, 1, 0, 0, 0, 1, 0, 0],
-    [0, 0, 1, 0, 0, 0, 1, 0],
-    [0, 0, 0, 1, 0, 0, 0, 1],
-    [1, 0, 1, 0, 0, 1, 0, 0],
-    [1, 0, 0, 1, 0, 0, 1, 0],
-    [0, 1, 0, 0, 1, 0, 1, 0],
-    [0, 0, 1, 0, 1, 0, 0, 1],
-    [2, 0, 0, 1, 0, 1, 0, 0],
-    [0, 1, 0, 0, 2, 0, 0, 1],
-    [0, 1, 0, 1, 0, 0, 2, 0],
-    [0, 0, 2, 0, 0, 1, 0, 1],
-    [0, 1, 0, 1, 0, 1, 0, 1],
-];
-
 // Eight side lengths as an outline that starts at (0, 0).
 fn from_origin(n: [u32; 8]) -> Outline
-    ensures { λ r. ⌜ r ≡ pieces.from-origin (λ m. getD n m 0) ⌝ }
+    ensures { λ r. ⌜ r ≡ pieces.from-origin n ⌝ }
 {
     Outline {
         i: 0,
@@ -83,14 +66,11 @@ fn from_origin(n: [u32; 8]) -> Outline
     }
 }
 
-// The piece in row k of the table as an outline, counted from 0; the one cell (0, 0) past its end.
+// Document 01's pieces, K1 in row 0 to K13 in row 12 of the table: row k as an outline from (0, 0), and the one cell (0, 0) past its end.
 pub fn piece(k: usize) -> Outline
     ensures { λ r. ⌜ r ≡ pieces.piece-of k ⌝ }
 {
-    if k < 13 {
-        return from_origin(PIECES[k]);
-    }
-    from_origin([0; 8])
+    from_origin(piece_sides(k))
 }
 
 // The start cell of an outline, and the counts of the pieces that make it.
@@ -108,7 +88,7 @@ pub fn decompose(o: Octagon) -> Decomposed
     ensures { λ r. ⌜ splitting.outcome r ≡ splitting.decomposition o ⌝ }
 {
     match to_outline(o) {
-        Traced::Outline(t) => Decomposed::Split(split_of(t)),
-        Traced::Refused(n) => Decomposed::Refused(n),
+        Outlined::Outline(t) => Decomposed::Split(split_of(t)),
+        Outlined::Refused(n) => Decomposed::Refused(n),
     }
 }

@@ -4,7 +4,7 @@
 use mathlib.Core.Path.{_≡_}
 use Prim.Native.Nat.{ℕ, _+_, _≤_}
 use native.Mathlib.Omega.{arith}
-use lib.IntN.{ℤ, subℕ}
+use lib.IntN.{ℤ, pos, negsuc, natAbs, subℕ}
 use lib.Signed.{_≤ℤ_}
 use Rattle.integers.proofs.Parts.{up, dn, subℕ-parts, parts-le, parts-eq}
 
@@ -50,3 +50,9 @@ le {a} {b} d e p q h = parts-le a b (omega arith)
 -- two integers that are equal to one difference
 pub same : {a b : ℤ} (d : Diff) → # a ≈ d → # b ≈ d → a ≡ b
 same {a} {b} d p q = parts-eq a b (omega arith)
+
+-- an integer of nought or more, as a natural number
+pub natural : (z : ℤ) → lit 0 ≼ # z → lit (natAbs z) ≈ # z
+unfolding up dn
+natural (pos n) h = omega arith
+natural (negsuc n) h = absurd (omega arith)

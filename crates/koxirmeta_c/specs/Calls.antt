@@ -1,13 +1,13 @@
 -- A call from C: the number that it answers, and what it leaves in the memory that it was lent. Assumes nothing.
 use mathlib.Core.Path.{_≡_}
 use Prim.Native.Nat.{ℕ}
-use mathlib.Core.Bool.{Bool, true, false, _&&_}
+use mathlib.Core.Bool.{Bool, true, false, cond, _&&_}
 use mathlib.Core.List.{List, [], _∷_}
 use lib.Dec.{eqb}
 use lib.IntN.{ℤ, pos}
 use lib.ListN.{length, getD}
 use Rattle.octagon.specs.declared.Octagon.{Octagon}
-use Rattle.octagon.specs.Outcome.{Outcome, accepted, refused}
+use Rattle.octagon.specs.Outcome.{Outcome, accepted, refused, left}
 use Rattle.cell_count.specs.Area.{cell-count}
 
 -- the number of a call whose slices have the wrong lengths: none of document 01's
@@ -15,19 +15,14 @@ abbrev pub wrong-length : ℕ
 wrong-length = 255
 
 -- a call, where the lengths of its slices are right
-abbrev pub fitted : {A : Type 0} → Bool → Outcome A → Outcome A
+unfoldable pub fitted : {A : Type 0} → Bool → Outcome A → Outcome A
 fitted true o = o
 fitted false o = refused wrong-length
 
 -- what a call answers: 0, or the number of the refusal
-abbrev pub status : {A : Type 0} → Outcome A → ℕ
+unfoldable pub status : {A : Type 0} → Outcome A → ℕ
 status (accepted a) = 0
 status (refused k) = k
-
--- what a call leaves where s was: what is written where it is accepted, and s where it is refused
-abbrev pub left : {A B : Type 0} → B → Outcome A → (A → B) → B
-left s (accepted a) f = f a
-left s (refused k) f = s
 
 -- what a call hands over that is lent memory m, of which it makes m′: the number r, and what it writes, by f
 pub record Hands {A B : Type 0} (o : Outcome A) (f : A → B) (m m′ : B) (r : ℕ) : Type 0 where
@@ -37,12 +32,12 @@ pub record Hands {A B : Type 0} (o : Outcome A) (f : A → B) (m m′ : B) (r : 
 -- ---- an octagon in a slice
 
 -- the slice has a place for each bound
-abbrev pub eight : {A : Type 0} → List A → Bool
-eight s = eqb (length s) 8
+abbrev pub is-eight : {A : Type 0} → List A → Bool
+is-eight s = eqb (length s) 8
 
--- the octagon of eight bounds, and the bounds of an octagon
-unfoldable pub octagon-of : List ℤ → Octagon
-octagon-of s = record {
+-- the octagon of bounds, those that a slice lacks being 0
+abbrev pub bounded : List ℤ → Octagon
+bounded s = record {
   c0 = getD s 0 (pos 0);
   c1 = getD s 1 (pos 0);
   c2 = getD s 2 (pos 0);
@@ -53,15 +48,20 @@ octagon-of s = record {
   c7 = getD s 7 (pos 0);
 }
 
+-- the octagon of eight bounds; a slice of another length is read as if it had none
+unfoldable pub octagon-in : List ℤ → Octagon
+octagon-in s = bounded (cond (is-eight s) s [])
+
+-- the bounds of an octagon
 unfoldable pub bounds-of : Octagon → List ℤ
 bounds-of o = o .c0 ∷ o .c1 ∷ o .c2 ∷ o .c3 ∷ o .c4 ∷ o .c5 ∷ o .c6 ∷ o .c7 ∷ []
 
 -- a call of one operand, and of two
-unfoldable pub on-one : (Octagon → Outcome Octagon) → List ℤ → List ℤ → Outcome Octagon
-on-one f s out = fitted (eight s && eight out) (f (octagon-of s))
+abbrev pub on-one : (Octagon → Outcome Octagon) → List ℤ → List ℤ → Outcome Octagon
+on-one f s out = fitted (is-eight s && is-eight out) (f (octagon-in s))
 
-unfoldable pub on-two : (Octagon → Octagon → Outcome Octagon) → List ℤ → List ℤ → List ℤ → Outcome Octagon
-on-two f p q out = fitted (eight p && eight q && eight out) (f (octagon-of p) (octagon-of q))
+abbrev pub on-two : (Octagon → Octagon → Outcome Octagon) → List ℤ → List ℤ → List ℤ → Outcome Octagon
+on-two f p q out = fitted (is-eight p && is-eight q && is-eight out) (f (octagon-in p) (octagon-in q))
 
-unfoldable pub counted : List ℤ → Outcome ℕ
-counted s = fitted (eight s) (cell-count (octagon-of s))
+abbrev pub counted : List ℤ → Outcome ℕ
+counted s = fitted (is-eight s) (cell-count (octagon-in s))

@@ -1,4 +1,5 @@
 -- What the contracts of the exported functions cite.
 pub mod Calls
 pub mod Outlines
+pub mod Splits
 pub mod Sheets

@@ -10,50 +10,44 @@ use Rattle.octagon.specs.declared.Octagon.{Octagon}
 use Rattle.octagon.specs.Outcome.{Outcome}
 use Rattle.outline.specs.declared.Outline.{Outline}
 use Rattle.outline.specs.declared.place.Place.{Place}
+use Rattle.outline.specs.Walk.{with-sides}
 use Rattle.outline.specs.Tracing.{traced}
 use Rattle.outline.specs.Outlining.{outlined}
 use Rattle.outline.specs.Places.{located}
-use Rattle.koxirmeta_c.specs.Calls.{fitted, eight, octagon-of}
+use Rattle.koxirmeta_c.specs.Calls.{fitted, is-eight, octagon-in}
 
 -- the slice has two places: those of a start, or of a place in metres
-abbrev pub two : {A : Type 0} → List A → Bool
-two s = eqb (length s) 2
+abbrev pub is-pair : {A : Type 0} → List A → Bool
+is-pair s = eqb (length s) 2
 
 -- the outline of a start and eight sides
-unfoldable pub outline-of : List ℤ → List ℕ → Outline
-outline-of s n = record {
-  i = getD s 0 (pos 0);
-  j = getD s 1 (pos 0);
-  n0 = getD n 0 0;
-  n1 = getD n 1 0;
-  n2 = getD n 2 0;
-  n3 = getD n 3 0;
-  n4 = getD n 4 0;
-  n5 = getD n 5 0;
-  n6 = getD n 6 0;
-  n7 = getD n 7 0;
-}
+unfoldable pub outline-in : List ℤ → List ℕ → Outline
+outline-in s n = with-sides (getD s 0 (pos 0)) (getD s 1 (pos 0)) n
 
--- the start and the sides of an outline, and both
-unfoldable pub start-of : Outline → List ℤ
-start-of o = o .i ∷ o .j ∷ []
+-- the slices of a start and of eight sides
+abbrev pub holds-outline : List ℤ → List ℕ → Bool
+holds-outline from sides = is-pair from && is-eight sides
+
+-- a start, the sides of an outline, and both
+unfoldable pub start : ℤ → ℤ → List ℤ
+start i j = i ∷ j ∷ []
 
 unfoldable pub sides-of : Outline → List ℕ
 sides-of o = o .n0 ∷ o .n1 ∷ o .n2 ∷ o .n3 ∷ o .n4 ∷ o .n5 ∷ o .n6 ∷ o .n7 ∷ []
 
-abbrev pub parts-of : Outline → List ℤ × List ℕ
-parts-of o = (start-of o, sides-of o)
+abbrev pub outline-parts : Outline → List ℤ × List ℕ
+outline-parts o = (start (o .i) (o .j), sides-of o)
 
 -- a place, east and north
 unfoldable pub metres-of : Place → List Float
 metres-of p = p .east ∷ p .north ∷ []
 
 -- the calls
-unfoldable pub drawn : List ℤ → List ℕ → List ℤ → Outcome Octagon
-drawn start sides out = fitted (two start && eight sides && eight out) (traced (outline-of start sides))
+abbrev pub tracing : List ℤ → List ℕ → List ℤ → Outcome Octagon
+tracing from sides out = fitted (holds-outline from sides && is-eight out) (traced (outline-in from sides))
 
-unfoldable pub outlining : List ℤ → List ℤ → List ℕ → Outcome Outline
-outlining s start sides = fitted (eight s && two start && eight sides) (outlined (octagon-of s))
+abbrev pub outlining : List ℤ → List ℤ → List ℕ → Outcome Outline
+outlining s from sides = fitted (is-eight s && holds-outline from sides) (outlined (octagon-in s))
 
-unfoldable pub locating : List ℤ → ℕ → List Float → Outcome Place
-locating s k place = fitted (eight s && two place) (located (octagon-of s) k)
+abbrev pub locating : List ℤ → ℕ → List Float → Outcome Place
+locating s k place = fitted (is-eight s && is-pair place) (located (octagon-in s) k)

@@ -1,35 +1,31 @@
 -- Plots in slices, and the calls on sheets. Assumes nothing.
 use Prim.Native.Nat.{ℕ}
-use mathlib.Core.Bool.{Bool, cond, _&&_}
+use mathlib.Core.Bool.{cond}
 use mathlib.Core.List.{List}
 use lib.IntN.{ℤ}
 use Rattle.octagon.specs.Outcome.{Outcome}
 use Rattle.sheet.specs.declared.Record.{Record}
 use Rattle.sheet.specs.Checking.{fetched, read}
 use Rattle.sheet.specs.Writing.{inserted, after-insert}
-use Rattle.koxirmeta_c.specs.Calls.{fitted, eight}
-use Rattle.koxirmeta_c.specs.Outlines.{two, outline-of, start-of, sides-of}
-
--- the slices of a start and of eight sides
-abbrev pub outlined : List ℤ → List ℕ → Bool
-outlined start sides = two start && eight sides
+use Rattle.koxirmeta_c.specs.Calls.{fitted}
+use Rattle.koxirmeta_c.specs.Outlines.{holds-outline, outline-in, start, sides-of}
 
 -- the plot of a number, a start and eight sides, and these of a plot
 unfoldable pub plot : ℕ → List ℤ → List ℕ → Record
-plot number start sides = record { number = number; outline = outline-of start sides }
+plot number from sides = record { number = number; outline = outline-in from sides }
 
 abbrev pub plot-of : Record → ℕ × List ℤ × List ℕ
-plot-of r = (r .number, start-of (r .outline), sides-of (r .outline))
+plot-of r = let o = r .outline in (r .number, start (o .i) (o .j), sides-of o)
 
 -- the calls, and what an insert leaves of the sheet
-unfoldable pub fetching : List ℕ → ℕ → ℕ → List ℤ → List ℕ → Outcome Record
-fetching s len k start sides = fitted (outlined start sides) (fetched s len k)
+abbrev pub fetching : List ℕ → ℕ → ℕ → List ℤ → List ℕ → Outcome Record
+fetching s len k from sides = fitted (holds-outline from sides) (fetched s len k)
 
-unfoldable pub reading : List ℕ → ℕ → ℕ → ℕ → List ℤ → List ℕ → Outcome Record
-reading s len count k start sides = fitted (outlined start sides) (read s len count k)
+abbrev pub reading : List ℕ → ℕ → ℕ → ℕ → List ℤ → List ℕ → Outcome Record
+reading s len count k from sides = fitted (holds-outline from sides) (read s len count k)
 
-unfoldable pub inserting : List ℕ → ℕ → ℕ → List ℤ → List ℕ → Outcome ℕ
-inserting s len number start sides = fitted (outlined start sides) (inserted s len (plot number start sides))
+abbrev pub inserting : List ℕ → ℕ → ℕ → List ℤ → List ℕ → Outcome ℕ
+inserting s len number from sides = fitted (holds-outline from sides) (inserted s len (plot number from sides))
 
-unfoldable pub after-inserting : List ℕ → ℕ → ℕ → List ℤ → List ℕ → List ℕ
-after-inserting s len number start sides = cond (outlined start sides) (after-insert s len (plot number start sides)) s
+abbrev pub after-inserting : List ℕ → ℕ → ℕ → List ℤ → List ℕ → List ℕ
+after-inserting s len number from sides = cond (holds-outline from sides) (after-insert s len (plot number from sides)) s

@@ -5,9 +5,9 @@ ghost use Rattle.koxirmeta_c.specs.Outlines as outlines;
 use outline::Outline;
 
 // The outline of a start and eight sides.
-pub fn outline_of(start: &[i32], sides: &[u32]) -> Outline
+pub fn outline_in(start: &[i32], sides: &[u32]) -> Outline
     requires { ⌜ (length (now start) ≡ 2) × (length (now sides) ≡ 8) ⌝ }
-    ensures { λ r. ⌜ r ≡ outlines.outline-of (now (start .entry)) (now (sides .entry)) ⌝ }
+    ensures { λ r. ⌜ r ≡ outlines.outline-in (now (start .entry)) (now (sides .entry)) ⌝ }
 {
     Outline {
         i: start[0],
@@ -23,13 +23,11 @@ pub fn outline_of(start: &[i32], sides: &[u32]) -> Outline
     }
 }
 
-// Writes the start of an outline.
-fn put_start(start: &mut [i32], o: Outline)
+// Writes a start.
+pub fn put_start(start: &mut [i32], i: i32, j: i32)
     requires { ⌜ length (now start) ≡ 2 ⌝ }
-    ensures { λ _. ⌜ now (start .exit) ≡ outlines.start-of o ⌝ }
+    ensures { λ _. ⌜ now (start .exit) ≡ outlines.start i j ⌝ }
 {
-    let i = o.i;
-    let j = o.j;
     start[0] = i;
     start[1] = j;
 }
@@ -52,8 +50,8 @@ fn put_sides(sides: &mut [u32], o: Outline)
 // Writes an outline.
 pub fn put_outline(start: &mut [i32], sides: &mut [u32], o: Outline)
     requires { ⌜ (length (now start) ≡ 2) × (length (now sides) ≡ 8) ⌝ }
-    ensures { λ _. ⌜ (now (start .exit), now (sides .exit)) ≡ outlines.parts-of o ⌝ }
+    ensures { λ _. ⌜ (now (start .exit), now (sides .exit)) ≡ outlines.outline-parts o ⌝ }
 {
-    put_start(start, o);
+    put_start(start, o.i, o.j);
     put_sides(sides, o);
 }

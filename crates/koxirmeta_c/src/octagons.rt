@@ -1,27 +1,31 @@
 // Octagons in slices of eight bounds.
 ghost use mathlib.Core.Path.{_≡_};
+ghost use mathlib.Core.Bool.{_&&_};
 ghost use lib.ListN.{length};
 ghost use Rattle.octagon.specs.Answers.{outcome};
 ghost use Rattle.koxirmeta_c.specs.Calls as calls;
 use crate::ACCEPTED;
+use crate::WRONG_LENGTH;
 use octagon::Answer;
 use octagon::Octagon;
 
-// The octagon of eight bounds.
-pub fn octagon_of(s: &[i32]) -> Octagon
-    requires { ⌜ length (now s) ≡ 8 ⌝ }
-    ensures { λ r. ⌜ r ≡ calls.octagon-of (now (s .entry)) ⌝ }
+// The octagon of eight bounds; the one cell at the origin of a slice of another length.
+pub fn octagon_in(s: &[i32]) -> Octagon
+    ensures { λ r. ⌜ r ≡ calls.octagon-in (now (s .entry)) ⌝ }
 {
-    Octagon {
-        c0: s[0],
-        c1: s[1],
-        c2: s[2],
-        c3: s[3],
-        c4: s[4],
-        c5: s[5],
-        c6: s[6],
-        c7: s[7],
+    if s.len() == 8 {
+        return Octagon {
+            c0: s[0],
+            c1: s[1],
+            c2: s[2],
+            c3: s[3],
+            c4: s[4],
+            c5: s[5],
+            c6: s[6],
+            c7: s[7],
+        };
     }
+    Octagon::ORIGIN
 }
 
 // Writes the bounds of an octagon.
@@ -47,16 +51,18 @@ fn put_bounds(out: &mut [i32], o: Octagon)
     out[7] = c7;
 }
 
-// Hands an answer over: its number, and where it is accepted its octagon.
-pub fn give(a: Answer, out: &mut [i32]) -> u32
-    requires { ⌜ length (now out) ≡ 8 ⌝ }
-    ensures { λ r. ⌜ calls.Hands (outcome a) calls.bounds-of (now (out .entry)) (now (out .exit)) r ⌝ }
+// Hands an answer over, where the slices that were read and `out` have the right lengths: its number, and its octagon if accepted.
+pub fn give(a: Answer, fits: bool, out: &mut [i32]) -> u32
+    ensures { λ r. ⌜ calls.Hands (calls.fitted (fits && calls.is-eight (now (out .entry))) (outcome a)) calls.bounds-of (now (out .entry)) (now (out .exit)) r ⌝ }
 {
-    match a {
-        Answer::Octagon(o) => {
-            put_bounds(out, o);
-            ACCEPTED
+    if fits & (out.len() == 8) {
+        match a {
+            Answer::Octagon(o) => {
+                put_bounds(out, o);
+                return ACCEPTED;
+            }
+            Answer::Refused(k) => return k,
         }
-        Answer::Refused(k) => k,
     }
+    WRONG_LENGTH
 }

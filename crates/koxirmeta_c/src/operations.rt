@@ -1,12 +1,13 @@
 // Normal form, cell count, dilation, erosion, opening, closing and the n-fold forms.
 ghost use Rattle.octagon.specs.NormalForm.{normalised};
+ghost use Rattle.cell_count.specs.Answers.{outcome};
 ghost use Rattle.morphology.specs.Operations.{dilation, erosion, opened};
 ghost use Rattle.morphology.specs.Folds.{closed, «dilation-n», «erosion-n»};
 ghost use Rattle.koxirmeta_c.specs.Calls as calls;
 use crate::ACCEPTED;
 use crate::WRONG_LENGTH;
 use crate::octagons::give;
-use crate::octagons::octagon_of;
+use crate::octagons::octagon_in;
 use cell_count::Count;
 use cell_count::count_cells;
 use morphology::closing;
@@ -22,19 +23,15 @@ use octagon::normalise;
 pub extern "C" fn kx_normalise(bounds: &[i32], out: &mut [i32]) -> u32
     ensures { λ r. ⌜ calls.Hands (calls.on-one normalised (now (bounds .entry)) (now (out .entry))) calls.bounds-of (now (out .entry)) (now (out .exit)) r ⌝ }
 {
-    if (bounds.len() == 8) & (out.len() == 8) {
-        return give(normalise(octagon_of(bounds)), out);
-    }
-    WRONG_LENGTH
+    give(normalise(octagon_in(bounds)), bounds.len() == 8, out)
 }
 
-// The number of cells within eight bounds.
-#[no_mangle]
-pub extern "C" fn kx_count(bounds: &[i32], cells: &mut u32) -> u32
-    ensures { λ r. ⌜ calls.Hands (calls.counted (now (bounds .entry))) (λ n. n) (now (cells .entry)) (now (cells .exit)) r ⌝ }
+// Hands a number of cells over, where the slice that was read has the right length.
+fn give_cells(c: Count, fits: bool, cells: &mut u32) -> u32
+    ensures { λ r. ⌜ calls.Hands (calls.fitted fits (outcome c)) (λ n. n) (now (cells .entry)) (now (cells .exit)) r ⌝ }
 {
-    if bounds.len() == 8 {
-        match count_cells(octagon_of(bounds)) {
+    if fits {
+        match c {
             Count::Cells(n) => {
                 *cells = n;
                 return ACCEPTED;
@@ -45,15 +42,24 @@ pub extern "C" fn kx_count(bounds: &[i32], cells: &mut u32) -> u32
     WRONG_LENGTH
 }
 
+// The number of cells within eight bounds.
+#[no_mangle]
+pub extern "C" fn kx_count(bounds: &[i32], cells: &mut u32) -> u32
+    ensures { λ r. ⌜ calls.Hands (calls.counted (now (bounds .entry))) (λ n. n) (now (cells .entry)) (now (cells .exit)) r ⌝ }
+{
+    give_cells(count_cells(octagon_in(bounds)), bounds.len() == 8, cells)
+}
+
 // The dilation of a plot by an element (document 01's spread).
 #[no_mangle]
 pub extern "C" fn kx_dilate(plot: &[i32], element: &[i32], out: &mut [i32]) -> u32
     ensures { λ r. ⌜ calls.Hands (calls.on-two dilation (now (plot .entry)) (now (element .entry)) (now (out .entry))) calls.bounds-of (now (out .entry)) (now (out .exit)) r ⌝ }
 {
-    if (plot.len() == 8) & (element.len() == 8) & (out.len() == 8) {
-        return give(dilate(octagon_of(plot), octagon_of(element)), out);
-    }
-    WRONG_LENGTH
+    give(
+        dilate(octagon_in(plot), octagon_in(element)),
+        (plot.len() == 8) & (element.len() == 8),
+        out,
+    )
 }
 
 // The erosion of a plot by an element (document 01's trim).
@@ -61,10 +67,11 @@ pub extern "C" fn kx_dilate(plot: &[i32], element: &[i32], out: &mut [i32]) -> u
 pub extern "C" fn kx_erode(plot: &[i32], element: &[i32], out: &mut [i32]) -> u32
     ensures { λ r. ⌜ calls.Hands (calls.on-two erosion (now (plot .entry)) (now (element .entry)) (now (out .entry))) calls.bounds-of (now (out .entry)) (now (out .exit)) r ⌝ }
 {
-    if (plot.len() == 8) & (element.len() == 8) & (out.len() == 8) {
-        return give(erode(octagon_of(plot), octagon_of(element)), out);
-    }
-    WRONG_LENGTH
+    give(
+        erode(octagon_in(plot), octagon_in(element)),
+        (plot.len() == 8) & (element.len() == 8),
+        out,
+    )
 }
 
 // The opening of a plot by an element.
@@ -72,10 +79,11 @@ pub extern "C" fn kx_erode(plot: &[i32], element: &[i32], out: &mut [i32]) -> u3
 pub extern "C" fn kx_opening(plot: &[i32], element: &[i32], out: &mut [i32]) -> u32
     ensures { λ r. ⌜ calls.Hands (calls.on-two opened (now (plot .entry)) (now (element .entry)) (now (out .entry))) calls.bounds-of (now (out .entry)) (now (out .exit)) r ⌝ }
 {
-    if (plot.len() == 8) & (element.len() == 8) & (out.len() == 8) {
-        return give(opening(octagon_of(plot), octagon_of(element)), out);
-    }
-    WRONG_LENGTH
+    give(
+        opening(octagon_in(plot), octagon_in(element)),
+        (plot.len() == 8) & (element.len() == 8),
+        out,
+    )
 }
 
 // The closing of a plot by an element.
@@ -83,10 +91,11 @@ pub extern "C" fn kx_opening(plot: &[i32], element: &[i32], out: &mut [i32]) -> 
 pub extern "C" fn kx_closing(plot: &[i32], element: &[i32], out: &mut [i32]) -> u32
     ensures { λ r. ⌜ calls.Hands (calls.on-two closed (now (plot .entry)) (now (element .entry)) (now (out .entry))) calls.bounds-of (now (out .entry)) (now (out .exit)) r ⌝ }
 {
-    if (plot.len() == 8) & (element.len() == 8) & (out.len() == 8) {
-        return give(closing(octagon_of(plot), octagon_of(element)), out);
-    }
-    WRONG_LENGTH
+    give(
+        closing(octagon_in(plot), octagon_in(element)),
+        (plot.len() == 8) & (element.len() == 8),
+        out,
+    )
 }
 
 // The n-fold dilation of a plot by an element.
@@ -94,10 +103,11 @@ pub extern "C" fn kx_closing(plot: &[i32], element: &[i32], out: &mut [i32]) -> 
 pub extern "C" fn kx_dilate_n(plot: &[i32], element: &[i32], n: u32, out: &mut [i32]) -> u32
     ensures { λ r. ⌜ calls.Hands (calls.on-two (λ p f. «dilation-n» p f n) (now (plot .entry)) (now (element .entry)) (now (out .entry))) calls.bounds-of (now (out .entry)) (now (out .exit)) r ⌝ }
 {
-    if (plot.len() == 8) & (element.len() == 8) & (out.len() == 8) {
-        return give(dilate_n(octagon_of(plot), octagon_of(element), n), out);
-    }
-    WRONG_LENGTH
+    give(
+        dilate_n(octagon_in(plot), octagon_in(element), n),
+        (plot.len() == 8) & (element.len() == 8),
+        out,
+    )
 }
 
 // The n-fold erosion of a plot by an element.
@@ -105,8 +115,9 @@ pub extern "C" fn kx_dilate_n(plot: &[i32], element: &[i32], n: u32, out: &mut [
 pub extern "C" fn kx_erode_n(plot: &[i32], element: &[i32], n: u32, out: &mut [i32]) -> u32
     ensures { λ r. ⌜ calls.Hands (calls.on-two (λ p f. «erosion-n» p f n) (now (plot .entry)) (now (element .entry)) (now (out .entry))) calls.bounds-of (now (out .entry)) (now (out .exit)) r ⌝ }
 {
-    if (plot.len() == 8) & (element.len() == 8) & (out.len() == 8) {
-        return give(erode_n(octagon_of(plot), octagon_of(element), n), out);
-    }
-    WRONG_LENGTH
+    give(
+        erode_n(octagon_in(plot), octagon_in(element), n),
+        (plot.len() == 8) & (element.len() == 8),
+        out,
+    )
 }

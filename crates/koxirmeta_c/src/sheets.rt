@@ -1,26 +1,25 @@
-// Sheets in lent buffers: check, fetch, start and insert.
+// Sheets in lent buffers: check, fetch, read, start and insert.
 ghost use mathlib.Core.Path.{_≡_};
-ghost use lib.ListN.{length};
-ghost use Rattle.sheet.specs.Answers.{«record-of»};
+ghost use Rattle.sheet.specs.Answers.{«count-outcome», «record-outcome», «length-outcome»};
 ghost use Rattle.sheet.specs.Checking.{checked};
 ghost use Rattle.sheet.specs.Writing.{started, «after-start»};
 ghost use Rattle.koxirmeta_c.specs.Calls as calls;
+ghost use Rattle.koxirmeta_c.specs.Outlines.{«holds-outline»};
 ghost use Rattle.koxirmeta_c.specs.Sheets as sheets;
 use crate::ACCEPTED;
 use crate::WRONG_LENGTH;
-use crate::codes::outline_of;
+use crate::codes::outline_in;
 use crate::codes::put_outline;
 use sheet::Checked;
 use sheet::Fetched;
 use sheet::Record;
 use sheet::Written;
 
-// How many records the sheet in the first `len` bytes has.
-#[no_mangle]
-pub extern "C" fn kx_sheet_check(sheet: &[u8], len: usize, count: &mut u32) -> u32
-    ensures { λ r. ⌜ calls.Hands (checked (now (sheet .entry)) len) (λ n. n) (now (count .entry)) (now (count .exit)) r ⌝ }
+// Hands a number of records over.
+fn give_count(c: Checked, count: &mut u32) -> u32
+    ensures { λ r. ⌜ calls.Hands («count-outcome» c) (λ n. n) (now (count .entry)) (now (count .exit)) r ⌝ }
 {
-    match sheet::check(sheet, len) {
+    match c {
         Checked::Count(n) => {
             *count = n;
             ACCEPTED
@@ -29,20 +28,30 @@ pub extern "C" fn kx_sheet_check(sheet: &[u8], len: usize, count: &mut u32) -> u
     }
 }
 
-// Hands a record over: its plot number, start and sides.
-fn give_record(f: Fetched, number: &mut u32, start: &mut [i32], sides: &mut [u32]) -> u32
-    requires { ⌜ (length (now start) ≡ 2) × (length (now sides) ≡ 8) ⌝ }
-    ensures { λ r. ⌜ calls.Hands («record-of» f) sheets.plot-of (now (number .entry), now (start .entry), now (sides .entry)) (now (number .exit), now (start .exit), now (sides .exit)) r ⌝ }
+// How many records the sheet in the first `len` bytes has.
+#[no_mangle]
+pub extern "C" fn kx_sheet_check(sheet: &[u8], len: usize, count: &mut u32) -> u32
+    ensures { λ r. ⌜ calls.Hands (checked (now (sheet .entry)) len) (λ n. n) (now (count .entry)) (now (count .exit)) r ⌝ }
 {
-    match f {
-        Fetched::Record(r) => {
-            *number = r.number;
-            let o = r.outline;
-            put_outline(start, sides, o);
-            ACCEPTED
+    give_count(sheet::check(sheet, len), count)
+}
+
+// Hands a record over, where `start` and `sides` have the right lengths: its plot number and its outline.
+fn give_record(f: Fetched, number: &mut u32, start: &mut [i32], sides: &mut [u32]) -> u32
+    ensures { λ r. ⌜ calls.Hands (calls.fitted («holds-outline» (now (start .entry)) (now (sides .entry))) («record-outcome» f)) sheets.plot-of (now (number .entry), now (start .entry), now (sides .entry)) (now (number .exit), now (start .exit), now (sides .exit)) r ⌝ }
+{
+    if (start.len() == 2) & (sides.len() == 8) {
+        match f {
+            Fetched::Record(r) => {
+                *number = r.number;
+                let o = r.outline;
+                put_outline(start, sides, o);
+                return ACCEPTED;
+            }
+            Fetched::Refused(k) => return k,
         }
-        Fetched::Refused(k) => k,
     }
+    WRONG_LENGTH
 }
 
 // Record k, counted from 0.
@@ -57,10 +66,7 @@ pub extern "C" fn kx_sheet_fetch(
 ) -> u32
     ensures { λ r. ⌜ calls.Hands (sheets.fetching (now (sheet .entry)) len k (now (start .entry)) (now (sides .entry))) sheets.plot-of (now (number .entry), now (start .entry), now (sides .entry)) (now (number .exit), now (start .exit), now (sides .exit)) r ⌝ }
 {
-    if (start.len() == 2) & (sides.len() == 8) {
-        return give_record(sheet::fetch(sheet, len, k), number, start, sides);
-    }
-    WRONG_LENGTH
+    give_record(sheet::fetch(sheet, len, k), number, start, sides)
 }
 
 // Record k of a sheet in which a check has counted `count` records: what `kx_sheet_fetch` answers, with no check.
@@ -76,10 +82,20 @@ pub extern "C" fn kx_sheet_read(
 ) -> u32
     ensures { λ r. ⌜ calls.Hands (sheets.reading (now (sheet .entry)) len count k (now (start .entry)) (now (sides .entry))) sheets.plot-of (now (number .entry), now (start .entry), now (sides .entry)) (now (number .exit), now (start .exit), now (sides .exit)) r ⌝ }
 {
-    if (start.len() == 2) & (sides.len() == 8) {
-        return give_record(sheet::read(sheet, len, count, k), number, start, sides);
+    give_record(sheet::read(sheet, len, count, k), number, start, sides)
+}
+
+// Hands the length of a sheet over.
+fn give_length(w: Written, len: &mut usize) -> u32
+    ensures { λ r. ⌜ calls.Hands («length-outcome» w) (λ n. n) (now (len .entry)) (now (len .exit)) r ⌝ }
+{
+    match w {
+        Written::Length(n) => {
+            *len = n;
+            ACCEPTED
+        }
+        Written::Refused(k) => k,
     }
-    WRONG_LENGTH
 }
 
 // Starts a sheet of no records after `heading` bytes.
@@ -87,13 +103,7 @@ pub extern "C" fn kx_sheet_read(
 pub extern "C" fn kx_sheet_start(sheet: &mut [u8], heading: usize, len: &mut usize) -> u32
     ensures { λ r. ⌜ calls.Hands (started (now (sheet .entry)) heading) (λ n. n) (now (len .entry)) (now (len .exit)) r × (now (sheet .exit) ≡ «after-start» (now (sheet .entry)) heading) ⌝ }
 {
-    match sheet::start(sheet, heading) {
-        Written::Length(n) => {
-            *len = n;
-            ACCEPTED
-        }
-        Written::Refused(k) => k,
-    }
+    give_length(sheet::start(sheet, heading), len)
 }
 
 // Inserts a plot by its number.
@@ -109,14 +119,8 @@ pub extern "C" fn kx_sheet_insert(
     ensures { λ r. ⌜ calls.Hands (sheets.inserting (now (sheet .entry)) len number (now (start .entry)) (now (sides .entry))) (λ n. n) (now (grown .entry)) (now (grown .exit)) r × (now (sheet .exit) ≡ sheets.after-inserting (now (sheet .entry)) len number (now (start .entry)) (now (sides .entry))) ⌝ }
 {
     if (start.len() == 2) & (sides.len() == 8) {
-        let outline = outline_of(start, sides);
-        match sheet::insert(sheet, len, Record { number, outline }) {
-            Written::Length(n) => {
-                *grown = n;
-                return ACCEPTED;
-            }
-            Written::Refused(k) => return k,
-        }
+        let outline = outline_in(start, sides);
+        return give_length(sheet::insert(sheet, len, Record { number, outline }), grown);
     }
     WRONG_LENGTH
 }

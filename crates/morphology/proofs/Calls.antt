@@ -1,16 +1,16 @@
--- The answers of calls on operands, case by case. Assumes nothing.
+-- The answers of calls, as their definitions compute them from answers that the code took apart. Assumes nothing.
 use mathlib.Core.Path.{_≡_, sym, _∙_, ap}
-use mathlib.Core.Bool.{true, false}
-use Prim.Native.Nat.{ℕ, _≤_}
-use borrow.Author.Tests.{le-ltb}
+use mathlib.Core.Bool.{Bool, true, false, cond}
+use Prim.Native.Nat.{ℕ, _<_, _≤_}
+use borrow.Author.Tests.{le-ltb, lt-ltb}
 use Rattle.octagon.specs.declared.Octagon.{Octagon}
 use Rattle.octagon.specs.declared.Answer.{Answer}
 use Rattle.octagon.specs.declared.Answer.the-variants.{Octagon as Holds, Refused}
-use Rattle.octagon.specs.Outcome.{Outcome, accepted, refused}
+use Rattle.octagon.specs.Outcome.{Outcome, accepted, refused, then}
 use Rattle.octagon.specs.Answers.{outcome}
-use Rattle.octagon.specs.NormalForm.{normalised, placed}
-use Rattle.morphology.specs.Folds.{multiples, fold-limit, are-opposed-in, dilation-n, erosion-n}
-use Rattle.morphology.specs.Operations.{sums, differences, are-opposed, opposed-rows, fitting, dilation, erosion}
+use Rattle.morphology.specs.Operations.{with-both}
+use Rattle.morphology.specs.Folds.{fold-limit, too-many-folds, within-folds}
+use Rattle.morphology.proofs.Operands.{Accepted}
 
 -- an answer taken apart: what its definition says
 pub is-accepted : {r : Answer} {o : Outcome Octagon} {a : Octagon} → outcome r ≡ o → r ≡ Holds a → o ≡ accepted a
@@ -19,30 +19,27 @@ is-accepted q e = sym q ∙ ap outcome e
 pub is-refused : {r : Answer} {o : Outcome Octagon} {k : ℕ} → outcome r ≡ o → r ≡ Refused k → o ≡ refused k
 is-refused q e = sym q ∙ ap outcome e
 
--- a dilation of accepted operands
-module _ (p f a b : Octagon) (q : normalised p ≡ accepted a) (r : normalised f ≡ accepted b) where
-  pub dilation-of-rows : are-opposed a b ≡ true → dilation p f ≡ refused opposed-rows
-  unfolding dilation
-  dilation-of-rows t = rw (q, r, t)
+-- two steps: a refusal of the first is handed back; where it is accepted, the answer x is that of the second
+pub step-refused : {r : Answer} {o : Outcome Octagon} {k : ℕ} (g : Octagon → Outcome Octagon) → outcome r ≡ o → r ≡ Refused k → outcome r ≡ then o g
+step-refused g q e = ap outcome e ∙ sym (rw (is-refused q e))
 
-  pub dilation-of-others : are-opposed a b ≡ false → dilation p f ≡ placed (sums a b)
-  unfolding dilation
-  dilation-of-others t = rw (q, r, t)
+pub step-accepted : {r : Answer} {o x : Outcome Octagon} {a : Octagon} (g : Octagon → Outcome Octagon) → outcome r ≡ o → r ≡ Holds a → x ≡ g a → x ≡ then o g
+step-accepted g q e d = d ∙ sym (rw (is-accepted q e))
 
-  pub erosion-of : erosion p f ≡ fitting (normalised (differences a b))
-  unfolding erosion
-  erosion-of = rw (q, r)
+-- two operands that are both accepted: the answer x is that of the call on their normal forms
+pub both-accepted : {p f a b : Octagon} {x : Outcome Octagon} (g : Octagon → Octagon → Outcome Octagon) → Accepted p f a b → x ≡ g a b → x ≡ with-both p f g
+both-accepted g h d = rw (h .of-p, h .of-f) d
 
--- n-fold calls on accepted operands
-module _ (p f a b : Octagon) (n : ℕ) (l : n ≤ fold-limit) (q : normalised p ≡ accepted a) (r : normalised f ≡ accepted b) where
-  pub dilation-n-of-rows : are-opposed-in n a b ≡ true → dilation-n p f n ≡ refused opposed-rows
-  unfolding dilation-n
-  dilation-n-of-rows t = rw (le-ltb fold-limit n l, q, r, t)
+-- too many folds, and few enough
+pub folds-refused : (n : ℕ) (o : Outcome Octagon) → fold-limit < n → refused too-many-folds ≡ within-folds n o
+folds-refused n o l = rw (lt-ltb fold-limit n l)
 
-  pub dilation-n-of-others : are-opposed-in n a b ≡ false → dilation-n p f n ≡ placed (sums a (multiples n b))
-  unfolding dilation-n
-  dilation-n-of-others t = rw (le-ltb fold-limit n l, q, r, t)
+pub folds-taken : {x : Outcome Octagon} (n : ℕ) (o : Outcome Octagon) → n ≤ fold-limit → x ≡ o → x ≡ within-folds n o
+folds-taken n o l d = rw (le-ltb fold-limit n l) d
 
-  pub erosion-n-of : erosion-n p f n ≡ fitting (normalised (differences a (multiples n b)))
-  unfolding erosion-n
-  erosion-n-of = rw (le-ltb fold-limit n l, q, r)
+-- opposed rows, and all others
+pub chosen : {t : Bool} {x : Outcome Octagon} (y : Outcome Octagon) → t ≡ true → x ≡ cond t x y
+chosen y h = rw h
+
+pub not-chosen : {t : Bool} {x y : Outcome Octagon} (z : Outcome Octagon) → t ≡ false → x ≡ y → x ≡ cond t z y
+not-chosen z h d = rw h d

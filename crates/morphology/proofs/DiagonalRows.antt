@@ -1,20 +1,19 @@
--- Diagonal rows: the tests on normal bounds say what document 01 says of cells, and the sums of opposed rows are no octagon's cells.
--- Assumes nothing.
+-- Diagonal rows: the tests on normal bounds say what document 01 says of cells. Assumes nothing.
 use mathlib.Core.Path.{_≡_, refl, sym, _∙_}
 use mathlib.Core.Logic.{_↔_, _⊎_, inl, inr}
 use mathlib.Core.Bool.{Bool, true, false, _&&_, _||_}
 use native.Mathlib.Omega.{arith}
-use lib.IntN.{ℤ, pos, _+ℤ_, _-ℤ_}
+use lib.IntN.{ℤ, pos, _+ℤ_}
 use lib.Signed.{leZ}
 use Rattle.integers.proofs.Parts.{up, dn, sum-parts, diff-parts, eq-parts}
-use Rattle.integers.proofs.Linear.{#, _⊕_, lit, _≼_, same}
+use Rattle.integers.proofs.Linear.{Diff, #, _⊕_, lit, _≼_, same}
 use Rattle.integers.proofs.Between.{decide}
 use Rattle.integers.proofs.Tests.{both-true, and-true, test-le, le-test, true-is-not-false}
 use Rattle.octagon.specs.declared.Octagon.{Octagon}
-use Rattle.octagon.specs.Cells.{In}
+use Rattle.octagon.specs.Cells.{In, Normalised}
 use Rattle.octagon.proofs.Within.{Within, Normal, within, cell-in}
-use Rattle.octagon.proofs.Vertices.{vertex-12, vertex-34, vertex-56, vertex-70}
-use Rattle.morphology.specs.Sets.{Rising, Falling, OpposedRows}
+use Rattle.octagon.proofs.Vertices.{Vertex, vertex-12, vertex-34, vertex-56, vertex-70, reached-normal}
+use Rattle.morphology.specs.Sets.{DiagonalRow, Rising, Falling, OpposedRows}
 use Rattle.morphology.specs.Operations.{is-row, is-rising, is-falling, are-opposed}
 use Rattle.morphology.proofs.Meet.{Opposed}
 
@@ -39,66 +38,61 @@ line-row p q s t l =
 
 -- ---- and as cells
 
+module _ {d : ℤ → ℤ → ℤ} {c : Octagon} {p q s t : Diff} (v : Vertex c p q) (w : Vertex c s t) where
+  -- a row of two vertices in different columns
+  row-of : (k : ℤ) → ¬ (v .x ≡ w .x) → ((x y : ℤ) → Within c x y → d x y ≡ k) → DiagonalRow d (In c)
+  row-of k n on = record {
+    line = k;
+    on-line = λ x y i. on x y (within i);
+    two = record {
+      one = record { x = v .x; y = v .y; cell = cell-in (v .inside) };
+      other = record { x = w .x; y = w .y; cell = cell-in (w .inside) };
+      apart = n;
+    };
+  }
+
+  -- two vertices of a row are on one line
+  on-one : DiagonalRow d (In c) → d (v .x) (v .y) ≡ d (w .x) (w .y)
+  on-one r = r .on-line (v .x) (v .y) (cell-in (v .inside)) ∙ sym (r .on-line (w .x) (w .y) (cell-in (w .inside)))
+
 rising-cells : (c : Octagon) → Normal c → Line (c .c1) (c .c5) (c .c3) (c .c7) → Rising (In c)
 rising-cells c n l =
     let v = vertex-34 c n in
     let w = vertex-70 c n in
-    record {
-      line = c .c1;
-      on-line = λ x y i. on x y (within i);
-      two = record {
-        one = record { x = v .x; y = v .y; cell = cell-in (v .inside) };
-        other = record { x = w .x; y = w .y; cell = cell-in (w .inside) };
-        apart = λ e. omega (arith, eq-parts e, l .many, l .one-line, v .at-x, v .at-y, w .at-x, w .at-y, v .inside, w .inside, n);
-      };
-    }
-  where
-    on : (x y : ℤ) → Within c x y → x -ℤ y ≡ c .c1
-    on x y i = same (# (c .c1)) (omega (arith, diff-parts x y)) (omega arith)
+    row-of v w (c .c1) (λ e. omega (arith, eq-parts e, l .many, l .one-line, v .at-x, v .at-y, w .at-x, w .at-y, v .inside, w .inside, n))
+    (λ x y i. same (# (c .c1)) (omega (arith, diff-parts x y)) (omega arith))
 
 falling-cells : (c : Octagon) → Normal c → Line (c .c3) (c .c7) (c .c1) (c .c5) → Falling (In c)
 falling-cells c n l =
     let v = vertex-12 c n in
     let w = vertex-56 c n in
-    record {
-      line = c .c3;
-      on-line = λ x y i. on x y (within i);
-      two = record {
-        one = record { x = v .x; y = v .y; cell = cell-in (v .inside) };
-        other = record { x = w .x; y = w .y; cell = cell-in (w .inside) };
-        apart = λ e. omega (arith, eq-parts e, l .many, l .one-line, v .at-x, v .at-y, w .at-x, w .at-y, v .inside, w .inside, n);
-      };
-    }
-  where
-    on : (x y : ℤ) → Within c x y → x +ℤ y ≡ c .c3
-    on x y i = same (# (c .c3)) (omega (arith, sum-parts x y)) (omega arith)
+    row-of v w (c .c3) (λ e. omega (arith, eq-parts e, l .many, l .one-line, v .at-x, v .at-y, w .at-x, w .at-y, v .inside, w .inside, n))
+    (λ x y i. same (# (c .c3)) (omega (arith, sum-parts x y)) (omega arith))
 
--- two vertices on one line x - y leave one line
+-- one line each way leaves one column
+narrow : (c : Octagon) {x y v w : ℤ} → # (c .c1) ⊕ # (c .c5) ≼ lit 0 → # (c .c3) ⊕ # (c .c7) ≼ lit 0 → Within c x y → Within c v w → x ≡ v
+narrow c {x} {y} {v} {w} l m i j = same (# v) (omega arith) (omega arith)
+
+-- so a row on one line one way has more than one the other way
+line-of : {d : ℤ → ℤ → ℤ} (c : Octagon) (p q s t : ℤ) → DiagonalRow d (In c) → # p ⊕ # q ≼ lit 0 →
+    (# s ⊕ # t ≼ lit 0 → (x y v w : ℤ) → Within c x y → Within c v w → x ≡ v) → Line p q s t
+line-of c p q s t r l f =
+    decide (lit 1) (# s ⊕ # t) (λ m. record { one-line = l; many = m })
+    (λ m. absurd (r .two .apart (f (omega arith) _ _ _ _ (within (r .two .one .cell)) (within (r .two .other .cell)))))
+
 pub cells-rising : (c : Octagon) → Normal c → Rising (In c) → Line (c .c1) (c .c5) (c .c3) (c .c7)
 cells-rising c n r =
     let v = vertex-12 c n in
     let w = vertex-56 c n in
-    let p = r .on-line (v .x) (v .y) (cell-in (v .inside)) in
-    let q = r .on-line (w .x) (w .y) (cell-in (w .inside)) in
-    let one : # (c .c1) ⊕ # (c .c5) ≼ lit 0 = omega (arith, eq-parts p, eq-parts q, diff-parts (v .x) (v .y), diff-parts (w .x) (w .y), v .at-x, v .at-y, w .at-x, w .at-y) in
-    decide (lit 1) (# (c .c3) ⊕ # (c .c7)) (λ m. record { one-line = one; many = m })
-    (λ m. absurd (r .two .apart (narrow one m (within (r .two .one .cell)) (within (r .two .other .cell)))))
-  where
-    narrow : {x y v w : ℤ} → # (c .c1) ⊕ # (c .c5) ≼ lit 0 → # (c .c3) ⊕ # (c .c7) ⊕ lit 1 ≼ lit 1 → Within c x y → Within c v w → x ≡ v
-    narrow {x} {y} {v} {w} one m i j = same (# v) (omega arith) (omega arith)
+    let l : # (c .c1) ⊕ # (c .c5) ≼ lit 0 = omega (arith, eq-parts (on-one v w r), diff-parts (v .x) (v .y), diff-parts (w .x) (w .y), v .at-x, v .at-y, w .at-x, w .at-y) in
+    line-of c (c .c1) (c .c5) (c .c3) (c .c7) r l (λ m _ _ _ _. narrow c l m)
 
 pub cells-falling : (c : Octagon) → Normal c → Falling (In c) → Line (c .c3) (c .c7) (c .c1) (c .c5)
 cells-falling c n r =
     let v = vertex-34 c n in
     let w = vertex-70 c n in
-    let p = r .on-line (v .x) (v .y) (cell-in (v .inside)) in
-    let q = r .on-line (w .x) (w .y) (cell-in (w .inside)) in
-    let one : # (c .c3) ⊕ # (c .c7) ≼ lit 0 = omega (arith, eq-parts p, eq-parts q, sum-parts (v .x) (v .y), sum-parts (w .x) (w .y), v .at-x, v .at-y, w .at-x, w .at-y) in
-    decide (lit 1) (# (c .c1) ⊕ # (c .c5)) (λ m. record { one-line = one; many = m })
-    (λ m. absurd (r .two .apart (narrow one m (within (r .two .one .cell)) (within (r .two .other .cell)))))
-  where
-    narrow : {x y v w : ℤ} → # (c .c3) ⊕ # (c .c7) ≼ lit 0 → # (c .c1) ⊕ # (c .c5) ⊕ lit 1 ≼ lit 1 → Within c x y → Within c v w → x ≡ v
-    narrow {x} {y} {v} {w} one m i j = same (# v) (omega arith) (omega arith)
+    let l : # (c .c3) ⊕ # (c .c7) ≼ lit 0 = omega (arith, eq-parts (on-one v w r), sum-parts (v .x) (v .y), sum-parts (w .x) (w .y), v .at-x, v .at-y, w .at-x, w .at-y) in
+    line-of c (c .c3) (c .c7) (c .c1) (c .c5) r l (λ m _ _ _ _. narrow c m l)
 
 -- ---- one of each kind
 
@@ -115,10 +109,16 @@ either-or a b (inr q) = rw q (true-right a)
     true-right false = refl
 
 -- the test is true exactly for rows of which one is of each kind
-pub opposed-rows-test : (a b : Octagon) → Normal a → Normal b → (are-opposed a b ≡ true) ↔ OpposedRows (In a) (In b)
+pub opposed-rows-test : (a b : Octagon) → Normalised a → Normalised b → (are-opposed a b ≡ true) ↔ OpposedRows (In a) (In b)
 unfolding are-opposed is-rising is-falling
-opposed-rows-test a b n k = (λ h. to (or-either _ _ h), λ r. either-or _ _ (from r))
+opposed-rows-test a b i j = (λ h. to (or-either _ _ h), λ r. either-or _ _ (from r))
   where
+    n : Normal a
+    n = reached-normal a (i .reached)
+
+    k : Normal b
+    k = reached-normal b (j .reached)
+
     to : ((is-rising a && is-falling b) ≡ true) ⊎ ((is-falling a && is-rising b) ≡ true) → OpposedRows (In a) (In b)
     to (inl h) =
         let p = both-true (is-rising a) (is-falling b) h in

@@ -3,16 +3,15 @@
 use mathlib.Core.Path.{_≡_}
 use native.Mathlib.Omega.{arith}
 use lib.IntN.{ℤ, _+ℤ_}
-use Rattle.integers.proofs.Parts.{sum-parts, diff-parts, parts-eq}
+use Rattle.integers.proofs.Parts.{sum-parts, diff-parts}
 use Rattle.integers.proofs.Linear.{#, _⊕_, neg, _≼_}
 use Rattle.octagon.specs.declared.Octagon.{Octagon}
 use Rattle.octagon.specs.Cells.{_≐_, In}
 use Rattle.octagon.proofs.Within.{Within, Normal, within, cell-in}
 use Rattle.octagon.proofs.Vertices.{vertex-12, vertex-34, vertex-56, vertex-70}
-use Rattle.octagon.proofs.Unique.{equal}
 use Rattle.morphology.specs.Sets.{Eroded}
 use Rattle.morphology.specs.Operations.{sums, differences}
-use Rattle.morphology.proofs.Sums.{Summed, summed}
+use Rattle.morphology.proofs.Sums.{Summed, summed, addend-same}
 
 -- the bounds of a are the sums of those of d and b
 pub differing : (a b : Octagon) → Summed (differences a b) b a
@@ -32,19 +31,7 @@ differing a b =
 
 -- differences of sums give the first bounds back
 pub sums-back : (a b : Octagon) → differences (sums a b) b ≡ a
-sums-back a b =
-    let h = summed a b in
-    let k = differing (sums a b) b in
-    let d = differences (sums a b) b in
-    equal
-    (parts-eq (d .c0) (a .c0) (omega (arith, h .s0, k .s0)))
-    (parts-eq (d .c1) (a .c1) (omega (arith, h .s1, k .s1)))
-    (parts-eq (d .c2) (a .c2) (omega (arith, h .s2, k .s2)))
-    (parts-eq (d .c3) (a .c3) (omega (arith, h .s3, k .s3)))
-    (parts-eq (d .c4) (a .c4) (omega (arith, h .s4, k .s4)))
-    (parts-eq (d .c5) (a .c5) (omega (arith, h .s5, k .s5)))
-    (parts-eq (d .c6) (a .c6) (omega (arith, h .s6, k .s6)))
-    (parts-eq (d .c7) (a .c7) (omega (arith, h .s7, k .s7)))
+sums-back a b = addend-same (differences (sums a b) b) b a (sums a b) (differing (sums a b) b) (summed a b)
 
 -- a position within the differences takes each cell of b into a
 fits : (a b d : Octagon) → Summed d b a → (x y v w : ℤ) → Within d x y → Within b v w → Within a (x +ℤ v) (y +ℤ w)

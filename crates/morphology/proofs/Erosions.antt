@@ -1,42 +1,52 @@
--- What the answer of `erode` means in sets, in the words of document 01: the n-fold erosion at one fold. Assumes nothing.
-use mathlib.Core.Path.{_≡_, sym, _∙_}
+-- The answers of `erode_n` and `erode`, each with the case of document 01 in which it is given. Assumes nothing.
+use mathlib.Core.Path.{_≡_}
 use mathlib.Core.Logic.{_↔_}
 use Prim.Native.Nat.{ℕ}
 use native.Mathlib.Omega.{arith}
+use lib.Dec.{ltb}
+use borrow.Author.Tests.{ltb-true, lt-ltb}
 use Rattle.octagon.specs.declared.Octagon.{Octagon}
-use Rattle.octagon.specs.Outcome.{accepted, refused, off-map}
-use Rattle.octagon.specs.Cells.{Empty, In, LeavesMap, Represents}
-use Rattle.octagon.specs.NormalForm.{normalised}
-use Rattle.morphology.specs.Sets.{Eroded}
-use Rattle.morphology.specs.Operations.{nothing-left, erosion}
-use Rattle.morphology.proofs.Operands.{Valid}
-use Rattle.morphology.proofs.FoldedErosions.{ErodingTimes, eroding-times, erosion-n-accepted, erosion-n-first, erosion-n-second, erosion-n-nothing, erosion-n-off-map}
+use Rattle.octagon.specs.Outcome.{Outcome, accepted, refused}
+use Rattle.octagon.specs.Cells.{Empty, In, Represents}
+use Rattle.morphology.specs.Sets.{Eroded, ErodedTimes}
+use Rattle.morphology.specs.Operations.{differences, nothing-left, erosion}
+use Rattle.morphology.specs.Folds.{multiples, fold-limit, erosion-n}
+use Rattle.morphology.specs.Cases.{Eroding, ErodingTimes}
+use Rattle.morphology.proofs.Multiples.{multiples-erode}
+use Rattle.morphology.proofs.SetLaws.{same-trans, eroded-times-same}
+use Rattle.morphology.proofs.Checks.{by-test, passing, skip, later, failed, after-operands, skip-operands, represented, not-refused, check-one, operands-one, stands-one, exactly}
+use Rattle.morphology.proofs.Operands.{on-operands, fitted}
 use Rattle.morphology.proofs.FewFolds.{erosion-one}
 
--- the answer, whole
-pub eroding : (p f : Octagon) → ErodingTimes p f 1 (erosion p f)
-eroding p f = rw (← erosion-one p f) (eroding-times p f 1)
+-- one of the cases holds of any operands and any n
+pub eroding-times : (p f : Octagon) (n : ℕ) → ErodingTimes p f n (erosion-n p f n)
+unfolding erosion-n
+eroding-times p f n =
+    by-test (ltb fold-limit n) _ (ltb-true fold-limit n, lt-ltb fold-limit n) λ _.
+    on-operands p f _ λ a b h k.
+    fitted (differences a (multiples n b)) (same-trans (multiples-erode n a b (k .normal)) (eroded-times-same n (h .cells) (k .cells)))
+
+-- and each answer is given exactly where its case holds
+pub erosion-n-exactly : (p f : Octagon) (n : ℕ) (o : Outcome Octagon) → (erosion-n p f n ≡ o) ↔ ErodingTimes p f n o
+erosion-n-exactly p f n = exactly (erosion-n p f n) (check-one (operands-one (check-one (check-one stands-one)))) (eroding-times p f n)
+
+-- accepted: exactly the n-fold erosion of definition 2.17; normalised, and on the map
+pub erosion-n-accepted : (p f : Octagon) (n : ℕ) (e : Octagon) → erosion-n p f n ≡ accepted e → Represents e (ErodedTimes n (In p) (In f))
+erosion-n-accepted p f n e q = represented (later (later (after-operands (later (erosion-n-exactly p f n (accepted e) .0 q)))))
+
+-- ---- one fold
+
+pub eroding : (p f : Octagon) → Eroding p f (erosion p f)
+eroding p f = passing (λ l. omega arith) (rw (erosion-one p f) at (eroding-times p f 1))
+
+pub erosion-exactly : (p f : Octagon) (o : Outcome Octagon) → (erosion p f ≡ o) ↔ Eroding p f o
+erosion-exactly p f = exactly (erosion p f) (operands-one (check-one (check-one stands-one))) (eroding p f)
 
 -- accepted: exactly the positions at which the whole of f stands inside p; normalised, and on the map
 pub erosion-accepted : (p f e : Octagon) → erosion p f ≡ accepted e → Represents e (Eroded (In p) (In f))
-erosion-accepted p f e q = erosion-n-accepted p f 1 e (erosion-one p f ∙ q)
+erosion-accepted p f e q = represented (later (later (after-operands (erosion-exactly p f (accepted e) .0 q))))
 
--- a refusal of the first operand is the answer; then one of the second
-pub erosion-first : (p f : Octagon) (k : ℕ) → normalised p ≡ refused k → erosion p f ≡ refused k
-erosion-first p f k q = sym (erosion-one p f) ∙ erosion-n-first p f 1 k (omega arith) q
-
-pub erosion-second : (p f : Octagon) (k : ℕ) → Valid p → normalised f ≡ refused k → erosion p f ≡ refused k
-erosion-second p f k v q = sym (erosion-one p f) ∙ erosion-n-second p f 1 k (omega arith) v q
-
--- 5 exactly where both operands are accepted and no position fits
-pub erosion-nothing : (p f : Octagon) → (erosion p f ≡ refused nothing-left) ↔ (Valid p × Valid f × Empty (Eroded (In p) (In f)))
-erosion-nothing p f = (
-  λ q. let r = erosion-n-nothing p f 1 .0 (erosion-one p f ∙ q) in (r .1, r .2, r .3),
-  λ v. sym (erosion-one p f) ∙ erosion-n-nothing p f 1 .1 (omega arith, v .0, v .1, v .2),
-)
-
--- after that, 2 exactly where some position that fits is off the map
-pub erosion-off-map : (p f : Octagon) → Valid p → Valid f → (erosion p f ≡ refused off-map) ↔ LeavesMap (Eroded (In p) (In f))
-erosion-off-map p f v w =
-    let t = erosion-n-off-map p f 1 (omega arith) v w in
-    (λ q. t .0 (erosion-one p f ∙ q), λ l. sym (erosion-one p f) ∙ t .1 l)
+-- "A trim says that nothing is left only when no position fits"
+pub erosion-nothing : (p f : Octagon) → erosion p f ≡ refused nothing-left → Empty (Eroded (In p) (In f))
+erosion-nothing p f q =
+    failed (λ c. not-refused (skip (λ e. omega arith) c)) (skip-operands (omega arith) (erosion-exactly p f (refused nothing-left) .0 q))

@@ -1,13 +1,13 @@
 -- No folds give the first operand's normal form, and one fold is the plain call. Assumes nothing.
 use mathlib.Core.Path.{_≡_, refl}
 use Rattle.octagon.specs.declared.Octagon.{Octagon}
+use Rattle.octagon.specs.Outcome.{accepted}
 use Rattle.octagon.specs.NormalForm.{normalised, placed}
 use Rattle.octagon.proofs.Map.{near-test}
-use Rattle.octagon.proofs.NormalForms.{normal-answer}
+use Rattle.octagon.proofs.NormalForms.{accepted-near, normalised-again}
 use Rattle.morphology.specs.Operations.{sums, differences, dilation, erosion}
 use Rattle.morphology.specs.Folds.{multiples, dilation-n, erosion-n}
 use Rattle.morphology.proofs.Multiples.{sums-zero, sums-suc, differences-zero, differences-suc}
-use Rattle.morphology.proofs.Operands.{Valid, operand}
 
 -- the bounds of one fold
 pub sums-one : (a b : Octagon) → sums a (multiples 1 b) ≡ sums a b
@@ -25,15 +25,12 @@ pub erosion-one : (p f : Octagon) → erosion-n p f 1 ≡ erosion p f
 unfolding erosion-n erosion
 erosion-one p f = simp differences-one
 
--- no folds: the first operand, normalised, where the second is accepted
-pub dilation-none : (p f : Octagon) → Valid p → Valid f → dilation-n p f 0 ≡ normalised p
-unfolding dilation-n placed
-dilation-none p f v w =
-    let h = operand p (v .0) (v .1) in
-    rw (v .1, w .1, sums-zero (v .0) (w .0), near-test (v .0) (h .near)) refl
+-- no folds: the first operand, normalised, where both are accepted
+module _ (p f a b : Octagon) (h : normalised p ≡ accepted a) (k : normalised f ≡ accepted b) where
+  pub dilation-none : dilation-n p f 0 ≡ accepted a
+  unfolding dilation-n placed
+  dilation-none = rw (h, k, sums-zero a b, near-test a (accepted-near p a h)) refl
 
-pub erosion-none : (p f : Octagon) → Valid p → Valid f → erosion-n p f 0 ≡ normalised p
-unfolding erosion-n
-erosion-none p f v w =
-    let h = operand p (v .0) (v .1) in
-    rw (v .1, w .1, differences-zero (v .0) (w .0), normal-answer (v .0) (h .normal) (h .near)) refl
+  pub erosion-none : erosion-n p f 0 ≡ accepted a
+  unfolding erosion-n
+  erosion-none = rw (h, k, differences-zero a b, normalised-again p a h) refl

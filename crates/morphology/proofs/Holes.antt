@@ -4,11 +4,11 @@ use mathlib.Core.Logic.{inl, inr}
 use native.Mathlib.Omega.{arith}
 use lib.IntN.{ℤ, pos, negsuc, _+ℤ_}
 use Rattle.integers.proofs.Parts.{up, dn, sum-parts, eq-parts}
-use Rattle.integers.proofs.Linear.{#, _⊕_, neg, lit, _≈_}
+use Rattle.integers.proofs.Linear.{Diff, #, _⊕_, neg, lit, _≈_}
 use Rattle.octagon.specs.declared.Octagon.{Octagon}
 use Rattle.octagon.specs.Cells.{_≐_, In}
 use Rattle.octagon.proofs.Within.{Within, Normal, within, cell-in}
-use Rattle.octagon.proofs.Vertices.{vertex-12, vertex-34, vertex-56, vertex-70}
+use Rattle.octagon.proofs.Vertices.{Vertex, vertex-12, vertex-34, vertex-56, vertex-70}
 use Rattle.morphology.specs.Sets.{Dilated, OpposedRows}
 use Rattle.morphology.proofs.DiagonalRows.{Line, cells-rising, cells-falling}
 use Rattle.morphology.proofs.SetLaws.{same-trans, dilated-comm}
@@ -20,43 +20,29 @@ around : (s : Octagon) (x y : ℤ) (x₁ y₁ x₂ y₂ x₃ y₃ x₄ y₄ : �
     Within s x₁ y₁ → Within s x₂ y₂ → Within s x₃ y₃ → Within s x₄ y₄ → Within s x y
 around s x y x₁ y₁ x₂ y₂ x₃ y₃ x₄ y₄ e1 f1 e2 f2 e3 f3 e4 f4 i1 i2 i3 i4 = omega arith
 
--- two neighbours of a row on a line x - y
-record Up (a : Octagon) : Type 0 where
+-- two neighbours of a row, in columns side by side and d rows apart
+record Neighbours (a : Octagon) (d : ℤ) : Type 0 where
   x : ℤ
   y : ℤ
   first : Within a x y
-  next : Within a (x +ℤ pos 1) (y +ℤ pos 1)
+  next : Within a (x +ℤ pos 1) (y +ℤ d)
 
-rising-two : (a : Octagon) → Normal a → Line (a .c1) (a .c5) (a .c3) (a .c7) → Up a
+beside : {a : Octagon} {p q : Diff} {d : ℤ} (v : Vertex a p q) → Within a (v .x +ℤ pos 1) (v .y +ℤ d) → Neighbours a d
+beside v i = record { x = v .x; y = v .y; first = v .inside; next = i }
+
+rising-two : (a : Octagon) → Normal a → Line (a .c1) (a .c5) (a .c3) (a .c7) → Neighbours a (pos 1)
 unfolding up dn
 rising-two a n l =
     let v = vertex-70 a n in
     let w = vertex-34 a n in
-    record {
-      x = v .x;
-      y = v .y;
-      first = v .inside;
-      next = omega (arith, l, v .inside, w .inside, v .at-x, v .at-y, w .at-x, w .at-y, sum-parts (v .x) (pos 1), sum-parts (v .y) (pos 1));
-    }
+    beside v (omega (arith, l, v .inside, w .inside, v .at-x, v .at-y, w .at-x, w .at-y, sum-parts (v .x) (pos 1), sum-parts (v .y) (pos 1)))
 
--- two neighbours of a row on a line x + y
-record Down (b : Octagon) : Type 0 where
-  x : ℤ
-  y : ℤ
-  first : Within b x y
-  next : Within b (x +ℤ pos 1) (y +ℤ negsuc 0)
-
-falling-two : (b : Octagon) → Normal b → Line (b .c3) (b .c7) (b .c1) (b .c5) → Down b
+falling-two : (b : Octagon) → Normal b → Line (b .c3) (b .c7) (b .c1) (b .c5) → Neighbours b (negsuc 0)
 unfolding up dn
 falling-two b n l =
     let v = vertex-56 b n in
     let w = vertex-12 b n in
-    record {
-      x = v .x;
-      y = v .y;
-      first = v .inside;
-      next = omega (arith, l, v .inside, w .inside, v .at-x, v .at-y, w .at-x, w .at-y, sum-parts (v .x) (pos 1), sum-parts (v .y) (negsuc 0));
-    }
+    beside v (omega (arith, l, v .inside, w .inside, v .at-x, v .at-y, w .at-x, w .at-y, sum-parts (v .x) (pos 1), sum-parts (v .y) (negsuc 0)))
 
 -- a cell of one row and a cell of the other never sum to the cell between the four
 between-cells : (a b : Octagon) (p q v w : ℤ) → Line (a .c1) (a .c5) (a .c3) (a .c7) → Line (b .c3) (b .c7) (b .c1) (b .c5) →
@@ -76,7 +62,7 @@ holes : (a b s : Octagon) → Normal a → Normal b → Line (a .c1) (a .c5) (a 
 unfolding up dn
 holes a b s n k l m e = go (rising-two a n l) (falling-two b k m)
   where
-    go : Up a → Down b → ⊥
+    go : Neighbours a (pos 1) → Neighbours b (negsuc 0) → ⊥
     go u d =
         let x = (u .x +ℤ d .x) +ℤ pos 1 in
         let y = u .y +ℤ d .y in

@@ -6,10 +6,9 @@ pub mod Differences
 pub mod Multiples
 pub mod DiagonalRows
 pub mod Holes
+pub mod Checks
 pub mod Operands
-pub mod OpposedOperands
-pub mod FoldedDilations
-pub mod FoldedErosions
+pub mod Pairings
 pub mod FewFolds
 pub mod Dilations
 pub mod Erosions
@@ -19,3 +18,4 @@ pub mod Decided
 pub mod Laws
 pub mod Calls
 pub mod Widths
+pub mod ReadBack

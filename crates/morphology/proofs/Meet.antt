@@ -135,34 +135,22 @@ module _ (a e : Octagon) (n : Normal a) (k : Normal e) (t : Touching a e) where
   )
 
 -- the cells of the meet are cells of both
-meet-left : (a e : Octagon) (x y : ℤ) → Within (meet a e) x y → Within a x y
-unfolding meet
-meet-left a e x y i =
-    omega (
-      arith,
-      min-left (a .c0) (e .c0),
-      min-left (a .c1) (e .c1),
-      min-left (a .c2) (e .c2),
-      min-left (a .c3) (e .c3),
-      min-left (a .c4) (e .c4),
-      min-left (a .c5) (e .c5),
-      min-left (a .c6) (e .c6),
-      min-left (a .c7) (e .c7),
-    )
+lesser : (a b : ℤ) → (# (minℤ a b) ≼ # a) × (# (minℤ a b) ≼ # b)
+lesser a b = (min-left a b, min-right a b)
 
-meet-right : (a e : Octagon) (x y : ℤ) → Within (meet a e) x y → Within e x y
+of-both : (a e : Octagon) (x y : ℤ) → Within (meet a e) x y → Within a x y × Within e x y
 unfolding meet
-meet-right a e x y i =
+of-both a e x y i =
     omega (
       arith,
-      min-right (a .c0) (e .c0),
-      min-right (a .c1) (e .c1),
-      min-right (a .c2) (e .c2),
-      min-right (a .c3) (e .c3),
-      min-right (a .c4) (e .c4),
-      min-right (a .c5) (e .c5),
-      min-right (a .c6) (e .c6),
-      min-right (a .c7) (e .c7),
+      lesser (a .c0) (e .c0),
+      lesser (a .c1) (e .c1),
+      lesser (a .c2) (e .c2),
+      lesser (a .c3) (e .c3),
+      lesser (a .c4) (e .c4),
+      lesser (a .c5) (e .c5),
+      lesser (a .c6) (e .c6),
+      lesser (a .c7) (e .c7),
     )
 
 -- a cell of both
@@ -178,5 +166,6 @@ common a e n k t o o′ =
     half-up (neg (# (d .c1) ⊕ # (d .c7))) λ l l₁ l₂.
     decide (# l ⊕ # l) (# (d .c3) ⊕ # (d .c5))
     (λ h. fair-cell d (meet-fair a e n k t) l (omega arith) λ x y i.
-    record { x = x; y = y; in-left = meet-left a e x y i; in-right = meet-right a e x y i })
+    let b = of-both a e x y i in
+    record { x = x; y = y; in-left = b .0; in-right = b .1 })
     (λ h. absurd (meet-odd a e n k t o o′ l l₂ h))

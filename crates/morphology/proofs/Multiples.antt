@@ -3,18 +3,18 @@ use mathlib.Core.Path.{_≡_}
 use Prim.Native.Nat.{ℕ, zero, suc, _≤_}
 use native.Mathlib.Nat.{zero-mul}
 use native.Mathlib.Omega.{arith}
-use lib.IntN.{ℤ, pos, _+ℤ_, _-ℤ_, _*ℤ_}
-use Rattle.integers.proofs.Parts.{up, dn, sum-parts, diff-parts, parts-eq}
+use lib.IntN.{ℤ, pos, _*ℤ_}
+use Rattle.integers.proofs.Parts.{up, dn}
+use Rattle.integers.proofs.Linear.{#, _⊕_, _≈_}
 use Rattle.integers.proofs.Multiples.{times-parts, times-suc}
 use Rattle.octagon.specs.declared.Octagon.{Octagon}
 use Rattle.octagon.specs.Cells.{_≐_, In}
 use Rattle.octagon.proofs.Within.{Normal}
-use Rattle.octagon.proofs.Unique.{equal}
 use Rattle.morphology.specs.Sets.{DilatedTimes, ErodedTimes}
 use Rattle.morphology.specs.Operations.{sums, differences}
 use Rattle.morphology.specs.Folds.{multiples}
 use Rattle.morphology.proofs.Meet.{Opposed}
-use Rattle.morphology.proofs.Sums.{Summed, summed, summed-normal, sums-exact}
+use Rattle.morphology.proofs.Sums.{Summed, summed, summed-same, addend-same, summed-normal, sums-exact}
 use Rattle.morphology.proofs.Differences.{differing, differences-exact}
 use Rattle.morphology.proofs.SetLaws.{same-refl, same-trans, dilated-same, eroded-same}
 
@@ -34,69 +34,53 @@ multiples-suc n b = record {
   s7 = times-suc n (b .c7);
 }
 
--- bounds that are told by the same sums are equal
-summed-equal : (a b s t : Octagon) → Summed a b s → Summed a b t → s ≡ t
-summed-equal a b s t h k =
-    equal
-    (parts-eq (s .c0) (t .c0) (omega (arith, h .s0, k .s0)))
-    (parts-eq (s .c1) (t .c1) (omega (arith, h .s1, k .s1)))
-    (parts-eq (s .c2) (t .c2) (omega (arith, h .s2, k .s2)))
-    (parts-eq (s .c3) (t .c3) (omega (arith, h .s3, k .s3)))
-    (parts-eq (s .c4) (t .c4) (omega (arith, h .s4, k .s4)))
-    (parts-eq (s .c5) (t .c5) (omega (arith, h .s5, k .s5)))
-    (parts-eq (s .c6) (t .c6) (omega (arith, h .s6, k .s6)))
-    (parts-eq (s .c7) (t .c7) (omega (arith, h .s7, k .s7)))
+-- no times bounds are nothing to add
+multiples-zero : (a b : Octagon) → Summed a (multiples 0 b) a
+unfolding multiples
+multiples-zero a b = record {
+  s0 = none (a .c0) (b .c0);
+  s1 = none (a .c1) (b .c1);
+  s2 = none (a .c2) (b .c2);
+  s3 = none (a .c3) (b .c3);
+  s4 = none (a .c4) (b .c4);
+  s5 = none (a .c5) (b .c5);
+  s6 = none (a .c6) (b .c6);
+  s7 = none (a .c7) (b .c7);
+}
+  where
+    none : (x z : ℤ) → # x ≈ # x ⊕ # (pos 0 *ℤ z)
+    none x z = omega (arith, times-parts 0 z, zero-mul (up z), zero-mul (dn z))
 
--- one more addend, and one addend taken off
+pub sums-zero : (a b : Octagon) → sums a (multiples 0 b) ≡ a
+sums-zero a b = summed-same a (multiples 0 b) (sums a (multiples 0 b)) a (summed a (multiples 0 b)) (multiples-zero a b)
+
+pub differences-zero : (a b : Octagon) → differences a (multiples 0 b) ≡ a
+differences-zero a b = addend-same (differences a (multiples 0 b)) (multiples 0 b) a a (differing a (multiples 0 b)) (multiples-zero a b)
+
+-- with m + b = n: a + n is (a + m) + b, and a - n is (a - m) - b
 summed-more : (a m b n s t : Octagon) → Summed a m s → Summed m b n → Summed a n t → Summed s b t
 summed-more a m b n s t h k l = omega arith
 
--- the sums after one more fold are the sums of one more dilation
-pub sums-suc : (n : ℕ) (a b : Octagon) → sums a (multiples (suc n) b) ≡ sums (sums a (multiples n b)) b
-sums-suc n a b =
-    let s = sums a (multiples n b) in
-    summed-equal s b (sums a (multiples (suc n) b)) (sums s b)
-    (summed-more a (multiples n b) b (multiples (suc n) b) s (sums a (multiples (suc n) b)) (summed a (multiples n b)) (multiples-suc n b) (summed a (multiples (suc n) b)))
-    (summed s b)
+summed-less : (a m b n d e : Octagon) → Summed d m a → Summed m b n → Summed e b d → Summed e n a
+summed-less a m b n d e h k l = omega arith
 
--- nothing added, and nothing taken away
-pub sums-zero : (a b : Octagon) → sums a (multiples 0 b) ≡ a
-unfolding sums multiples
-sums-zero a b =
-    equal (none (a .c0) (b .c0)) (none (a .c1) (b .c1)) (none (a .c2) (b .c2)) (none (a .c3) (b .c3)) (none (a .c4) (b .c4))
-    (none (a .c5) (b .c5)) (none (a .c6) (b .c6)) (none (a .c7) (b .c7))
-  where
-    none : (x z : ℤ) → x +ℤ pos 0 *ℤ z ≡ x
-    none x z = parts-eq (x +ℤ pos 0 *ℤ z) x (omega (arith, sum-parts x (pos 0 *ℤ z), times-parts 0 z, zero-mul (up z), zero-mul (dn z)))
+-- the sums after one more fold are the sums of one more dilation, and the differences those of one more erosion
+module _ (n : ℕ) (a b : Octagon) where
+  abbrev m : Octagon
+  m = multiples n b
 
-pub differences-zero : (a b : Octagon) → differences a (multiples 0 b) ≡ a
-unfolding differences multiples
-differences-zero a b =
-    equal (none (a .c0) (b .c0)) (none (a .c1) (b .c1)) (none (a .c2) (b .c2)) (none (a .c3) (b .c3)) (none (a .c4) (b .c4))
-    (none (a .c5) (b .c5)) (none (a .c6) (b .c6)) (none (a .c7) (b .c7))
-  where
-    none : (x z : ℤ) → x -ℤ pos 0 *ℤ z ≡ x
-    none x z = parts-eq (x -ℤ pos 0 *ℤ z) x (omega (arith, diff-parts x (pos 0 *ℤ z), times-parts 0 z, zero-mul (up z), zero-mul (dn z)))
+  abbrev m′ : Octagon
+  m′ = multiples (suc n) b
 
--- the differences after one more fold are the differences of one more erosion
-pub differences-suc : (n : ℕ) (a b : Octagon) → differences a (multiples (suc n) b) ≡ differences (differences a (multiples n b)) b
-differences-suc n a b =
-    let d = differences a (multiples n b) in
-    let e = differences a (multiples (suc n) b) in
-    let f = differences d b in
-    let h = differing a (multiples n b) in
-    let k = differing a (multiples (suc n) b) in
-    let l = differing d b in
-    let m = multiples-suc n b in
-    equal
-    (parts-eq (e .c0) (f .c0) (omega (arith, h .s0, k .s0, l .s0, m .s0)))
-    (parts-eq (e .c1) (f .c1) (omega (arith, h .s1, k .s1, l .s1, m .s1)))
-    (parts-eq (e .c2) (f .c2) (omega (arith, h .s2, k .s2, l .s2, m .s2)))
-    (parts-eq (e .c3) (f .c3) (omega (arith, h .s3, k .s3, l .s3, m .s3)))
-    (parts-eq (e .c4) (f .c4) (omega (arith, h .s4, k .s4, l .s4, m .s4)))
-    (parts-eq (e .c5) (f .c5) (omega (arith, h .s5, k .s5, l .s5, m .s5)))
-    (parts-eq (e .c6) (f .c6) (omega (arith, h .s6, k .s6, l .s6, m .s6)))
-    (parts-eq (e .c7) (f .c7) (omega (arith, h .s7, k .s7, l .s7, m .s7)))
+  pub sums-suc : sums a m′ ≡ sums (sums a m) b
+  sums-suc =
+      let s = sums a m in
+      summed-same s b (sums a m′) (sums s b) (summed-more a m b m′ s (sums a m′) (summed a m) (multiples-suc n b) (summed a m′)) (summed s b)
+
+  pub differences-suc : differences a m′ ≡ differences (differences a m) b
+  differences-suc =
+      let d = differences a m in
+      addend-same (differences a m′) m′ (differences d b) a (differing a m′) (summed-less a m b m′ d (differences d b) (differing a m) (multiples-suc n b) (differing d b))
 
 -- ---- sets
 

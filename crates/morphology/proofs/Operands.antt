@@ -1,60 +1,58 @@
--- The operands of a call: each is normalised, the first before the second, and a refusal of either is the answer. Assumes nothing.
-use mathlib.Core.Path.{_≡_, refl, sym, _∙_}
-use mathlib.Core.Logic.{⊎-elim}
-use Prim.Native.Nat.{ℕ, suc}
-use native.Mathlib.Omega.{arith}
+-- The operands of a call, which are normalised, the first before the second: document 01's checks of them, and their normal forms.
+-- Assumes nothing.
+use mathlib.Core.Path.{_≡_, refl}
+use Prim.Native.Nat.{ℕ}
 use Rattle.octagon.specs.declared.Octagon.{Octagon}
-use Rattle.octagon.specs.Outcome.{Outcome, accepted, refused, then, no-cell}
-use Rattle.octagon.specs.Cells.{_≐_, Some, In}
-use Rattle.octagon.specs.NormalForm.{normalised}
-use Rattle.octagon.proofs.Outcomes.{accepted-not-refused}
-use Rattle.octagon.proofs.Within.{Normal, Near}
-use Rattle.octagon.proofs.Vertices.{reached-normal}
-use Rattle.octagon.proofs.Map.{cells-near}
-use Rattle.octagon.proofs.NormalForms.{accepted-means, refused-no-cell, refused-only}
-use Rattle.morphology.specs.Operations.{with-both}
+use Rattle.octagon.specs.Outcome.{Outcome, accepted, refused, then, no-cell, off-map}
+use Rattle.octagon.specs.Cells.{Cells, _≐_, Empty, Some, In, LeavesMap}
+use Rattle.octagon.specs.NormalForm.{normal-form, normalised}
+use Rattle.octagon.proofs.Within.{Normal}
+use Rattle.octagon.proofs.Normalising.{some-normal, Normalising, is-normal, is-empty, is-off, normalising, form-cells}
+use Rattle.octagon.proofs.NormalForms.{accepted-means, accepted-normal}
+use Rattle.morphology.specs.Operations.{with-both, fitting}
+use Rattle.morphology.specs.Cases.{Answers, Check, fails, passes, stands, OnOperand, OnOperands, Fitting}
+use Rattle.morphology.proofs.SetLaws.{same-refl, same-sym, same-empty, leaves-same}
+use Rattle.morphology.proofs.Checks.{not-empty, stays, represents-same}
 
--- a is the normal form of the operand p
-pub record Operand (p a : Octagon) : Type 0 where
-  pub answer : normalised p ≡ accepted a
+-- ---- normal forms
+
+-- a has the cells of p, and its sides are nought or more
+pub record Form (p a : Octagon) : Type 0 where
   pub normal : Normal a
-  pub near : Near a
   pub cells : In a ≐ In p
 
-pub operand : (p a : Octagon) → normalised p ≡ accepted a → Operand p a
-operand p a q =
-    let t = accepted-means p a q in
-    let n = reached-normal a (t .is-normalised .reached) in
-    record { answer = q; normal = n; near = cells-near a n (t .on-the-map); cells = t .cells }
+-- whatever has a cell has such a form, on the map or off it
+pub form-of : (p : Octagon) → Some (In p) → Form p (normal-form p)
+form-of p s = record { normal = some-normal p s; cells = form-cells p }
 
--- an operand that is not refused
-abbrev pub Valid : Octagon → Type 0
-Valid p = (a : Octagon) × (normalised p ≡ accepted a)
+-- both operands of a call, accepted
+pub record Accepted (p f a b : Octagon) : Type 0 where
+  pub of-p : normalised p ≡ accepted a
+  pub of-f : normalised f ≡ accepted b
 
--- an operand is accepted or refused, with 1 or with 2
-pub clash : (p : Octagon) {k : ℕ} → Valid p → normalised p ≡ refused k → ⊥
-clash p v r = accepted-not-refused (sym (v .1) ∙ r)
+-- ---- the checks
 
-pub no-other : (p : Octagon) (k : ℕ) {n : ℕ} → normalised p ≡ refused k → k ≡ suc (suc (suc n)) → ⊥
-no-other p k r e = ⊎-elim (λ h. omega arith) (λ h. omega arith) (refused-only p k r)
-
--- how the answer of a call on two operands comes about
-pub data Called (p f : Octagon) (g : Octagon → Octagon → Outcome Octagon) : Outcome Octagon → Type 0 where
-  first-refused : (k : ℕ) → normalised p ≡ refused k → Called p f g (refused k)
-  second-refused : (a : Octagon) (k : ℕ) → Operand p a → normalised f ≡ refused k → Called p f g (refused k)
-  both-accepted : (a b : Octagon) → Operand p a → Operand f b → Called p f g (g a b)
-
-pub called : (p f : Octagon) (g : Octagon → Octagon → Outcome Octagon) → Called p f g (with-both p f g)
-called p f g = one (normalised p) refl
+-- an answer that h makes of a normalised octagon with the cells of A
+judged : {A : Cells} {k : ℕ} {C : Answers} (d : Octagon) (h : Outcome Octagon → Outcome Octagon) → In d ≐ A →
+    h (refused no-cell) ≡ refused k → h (refused off-map) ≡ refused off-map → ((a : Octagon) → normalised d ≡ accepted a → C (h (accepted a))) →
+    Check (Empty A) k (Check (LeavesMap A) off-map C) (h (normalised d))
+judged {A} {k} {C} d h e p q f = go (normalising d) refl
   where
-    two : (a : Octagon) → Operand p a → (o : Outcome Octagon) → normalised f ≡ o → Called p f g (then o (λ b. g a b))
-    two a h (accepted b) q = both-accepted a b h (operand f b q)
-    two a h (refused k) q = second-refused a k h q
+    go : {o : Outcome Octagon} → Normalising d o → normalised d ≡ o → Check (Empty A) k (Check (LeavesMap A) off-map C) (h o)
+    go (is-normal a _ _ _ _) r =
+        let t = accepted-means d a r in
+        passes (λ n. not-empty t (same-empty (same-sym e) n)) (passes (λ l. stays t (leaves-same (same-sym e) l)) (f a r))
+    go (is-empty n) r = rw p (fails (same-empty e n))
+    go (is-off _ l) r = rw q (passes (λ n. n (l .x) (l .y) (e (l .x) (l .y) .0 (l .cell .0))) (fails (leaves-same e l)))
 
-    one : (o : Outcome Octagon) → normalised p ≡ o → Called p f g (then o (λ a. then (normalised f) (λ b. g a b)))
-    one (accepted a) q = two a (operand p a q) (normalised f) refl
-    one (refused k) q = first-refused k q
+-- a call on two operands, by what it answers on their normal forms
+on-operand : {C : Answers} (p : Octagon) (g : Octagon → Outcome Octagon) → ((a : Octagon) → Form p a → C (g a)) → OnOperand p C (then (normalised p) g)
+on-operand p g f = judged p (λ o. then o g) (same-refl (In p)) refl refl (λ a q. f a (record { normal = accepted-normal p a q; cells = accepted-means p a q .cells }))
 
--- an operand with a cell is not refused as empty
-pub has-some : (p : Octagon) → Some (In p) → ¬ (normalised p ≡ refused no-cell)
-has-some p s q = refused-no-cell p .0 q (s .x) (s .y) (s .cell)
+pub on-operands : {C : Answers} (p f : Octagon) (g : Octagon → Octagon → Outcome Octagon) →
+    ((a b : Octagon) → Form p a → Form f b → C (g a b)) → OnOperands p f C (with-both p f g)
+on-operands p f g h = on-operand p (λ a. then (normalised f) (λ b. g a b)) (λ a i. on-operand f (λ b. g a b) (λ b j. h a b i j))
+
+-- the positions within differences of bounds
+pub fitted : {A : Cells} (d : Octagon) → In d ≐ A → Fitting A (fitting (normalised d))
+fitted d e = judged d fitting e refl refl λ a q. stands (represents-same e (accepted-means d a q))

@@ -1,4 +1,4 @@
--- The cells within the sums of two octagons' normal bounds are the sums of their cells, but for opposed diagonal rows.
+-- Sums of two octagons' bounds, which tell the addends; and of normal bounds, whose cells are the sums of cells but for opposed rows.
 -- Assumes nothing.
 use mathlib.Core.Path.{_≡_}
 use native.Mathlib.Omega.{arith}
@@ -8,6 +8,7 @@ use Rattle.integers.proofs.Linear.{#, _⊕_, neg, _≈_, int, int-parts, same}
 use Rattle.octagon.specs.declared.Octagon.{Octagon}
 use Rattle.octagon.specs.Cells.{_≐_, In}
 use Rattle.octagon.proofs.Within.{Within, Normal, within, cell-in}
+use Rattle.octagon.proofs.Unique.{both-ways}
 use Rattle.morphology.specs.Sets.{Dilated}
 use Rattle.morphology.specs.Operations.{sums}
 use Rattle.morphology.proofs.Meet.{Opposed, Common, common}
@@ -35,6 +36,13 @@ summed a b = record {
   s6 = sum-parts (a .c6) (b .c6);
   s7 = sum-parts (a .c7) (b .c7);
 }
+
+-- the sums tell the bounds, and so do one addend and the sums
+pub summed-same : (a b s t : Octagon) → Summed a b s → Summed a b t → s ≡ t
+summed-same a b s t h k = both-ways s t (omega arith) (omega arith)
+
+pub addend-same : (a b d s : Octagon) → Summed a b s → Summed d b s → a ≡ d
+addend-same a b d s h k = both-ways a d (omega arith) (omega arith)
 
 -- normal bounds have normal sums
 pub summed-normal : (a b s : Octagon) → Summed a b s → Normal a → Normal b → Normal s

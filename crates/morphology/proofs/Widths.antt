@@ -1,5 +1,4 @@
 -- Sums, differences and multiples of normal forms fit an i32. Assumes nothing.
-use mathlib.Core.Path.{_≡_}
 use Prim.Native.Nat.{ℕ, _+_, _*_, _^_, _<_, _≤_}
 use native.Mathlib.Omega.{arith}
 use mir.Syntax.{w32}
@@ -7,16 +6,15 @@ use Rattle.integers.proofs.Linear.{#, neg, lit, _≼_}
 use Rattle.integers.proofs.Multiples.{times-near}
 use Rattle.integers.proofs.Range.{near-fits}
 use Rattle.octagon.specs.declared.Octagon.{Octagon}
-use Rattle.octagon.specs.Outcome.{accepted}
 use Rattle.octagon.specs.Cells.{limit}
-use Rattle.octagon.specs.NormalForm.{normalised}
 use Rattle.octagon.specs.Widths.{Held}
 use Rattle.octagon.proofs.Within.{Normal, Near}
+use Rattle.octagon.proofs.NormalForms.{accepted-normal, accepted-near}
 use Rattle.morphology.specs.Operations.{sums, differences}
 use Rattle.morphology.specs.Folds.{multiples, fold-limit}
 use Rattle.morphology.proofs.Sums.{Summed, summed}
 use Rattle.morphology.proofs.Differences.{differing}
-use Rattle.morphology.proofs.Operands.{operand}
+use Rattle.morphology.proofs.Operands.{Accepted}
 
 -- no bound is further than k from 0
 pub record Bounded (k : ℕ) (c : Octagon) : Type 0 where
@@ -65,12 +63,12 @@ multiples-bounded n m k b l h = record {
 
 -- ---- normal forms of operands
 
-module _ (p f a b : Octagon) (q : normalised p ≡ accepted a) (r : normalised f ≡ accepted b) where
+module _ {p f a b : Octagon} (h : Accepted p f a b) where
   first : Bounded (2 * limit) a
-  first = let h = operand p a q in normal-bounded a (h .normal) (h .near)
+  first = normal-bounded a (accepted-normal p a (h .of-p)) (accepted-near p a (h .of-p))
 
   second : Bounded (2 * limit) b
-  second = let h = operand f b r in normal-bounded b (h .normal) (h .near)
+  second = normal-bounded b (accepted-normal f b (h .of-f)) (accepted-near f b (h .of-f))
 
   pub sums-held : Held w32 (sums a b)
   sums-held =

@@ -1,4 +1,4 @@
--- The answers of `closing`, `dilate_n` and `erode_n`: definitions that compute. proofs/ says what they mean in sets. Assumes nothing.
+-- The answers of `dilate_n`, `erode_n` and `closing`: definitions that compute. proofs/ says what they mean in sets. Assumes nothing.
 use mathlib.Core.Bool.{Bool, cond, _&&_}
 use Prim.Native.Nat.{ℕ}
 use lib.Dec.{ltb}
@@ -7,10 +7,6 @@ use Rattle.octagon.specs.declared.Octagon.{Octagon}
 use Rattle.octagon.specs.Outcome.{Outcome, refused, then}
 use Rattle.octagon.specs.NormalForm.{normalised, placed}
 use Rattle.morphology.specs.Operations.{with-both, sums, differences, are-opposed, opposed-rows, fitting, dilation, erosion}
-
--- the closing of p by f: the dilation, and where that is accepted the erosion of what it gave
-unfoldable pub closed : Octagon → Octagon → Outcome Octagon
-closed p f = then (dilation p f) (λ d. erosion d f)
 
 -- the most folds of an n-fold call, and the refusal number of more
 abbrev pub fold-limit : ℕ
@@ -48,3 +44,7 @@ dilation-n p f n =
 -- the n-fold erosion of p by f
 unfoldable pub erosion-n : Octagon → Octagon → ℕ → Outcome Octagon
 erosion-n p f n = within-folds n (with-both p f (λ a b. fitting (normalised (differences a (multiples n b)))))
+
+-- the closing of p by f: the dilation, and where that is accepted the erosion of what it gave
+unfoldable pub closed : Octagon → Octagon → Outcome Octagon
+closed p f = then (dilation p f) (λ d. erosion d f)

@@ -1,5 +1,6 @@
--- What the contracts on morphology cite: the operations on sets, and the answers of the calls.
+-- What a reader must believe of morphology: the operations on sets, the answers that the contracts cite, and the words of its theorems.
 pub mod Sets
 pub mod Operations
 pub mod Premises
 pub mod Folds
+pub mod Cases

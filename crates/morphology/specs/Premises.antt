@@ -1,9 +1,12 @@
--- What the laws of demand 3 compare, and what they ask of the calls that they name ("What the laws compare" of document 01).
--- Assumes nothing.
+-- The words of the laws of demand 3 ("What the laws compare" of document 01): what they ask of the calls that they name, and what
+-- the two with several parts say. Assumes nothing.
 use mathlib.Core.Path.{_≡_}
+use mathlib.Core.Logic.{_↔_, _⊎_}
 use Rattle.octagon.specs.declared.Octagon.{Octagon}
 use Rattle.octagon.specs.Outcome.{Outcome, accepted, refused, then, off-map}
-use Rattle.morphology.specs.Operations.{opposed-rows, dilation, erosion}
+use Rattle.octagon.specs.Cells.{_⊆_, In}
+use Rattle.octagon.specs.NormalForm.{normalised}
+use Rattle.morphology.specs.Operations.{opposed-rows, nothing-left, dilation, erosion}
 
 -- a call that is refused neither as off the map nor as opposed diagonal rows
 pub record Allowed (o : Outcome Octagon) : Type 0 where
@@ -26,3 +29,19 @@ erosion-by-both p f g = then (dilation f g) (λ d. erosion p d)
 pub record AllowedByBoth (p f g : Octagon) : Type 0 where
   pub first : Allowed (dilation f g)
   pub second : (d : Octagon) → dilation f g ≡ accepted d → Allowed (erosion p d)
+
+-- "An octagon spread by a frame lies in the plot exactly when the octagon lies in the trimmed plot; where nothing is left, none does."
+pub record LiesIn (x f p : Octagon) : Type 0 where
+  pub spread : Octagon
+  pub spread-accepted : dilation x f ≡ accepted spread
+  pub trimmed-or-nothing : ((e : Octagon) × (erosion p f ≡ accepted e)) ⊎ (erosion p f ≡ refused nothing-left)
+  pub exactly : (e : Octagon) → erosion p f ≡ accepted e → (In spread ⊆ In p) ↔ (In x ⊆ In e)
+  pub none : erosion p f ≡ refused nothing-left → ¬ (In spread ⊆ In p)
+
+-- "Spreading and then trimming by one frame is accepted and returns exactly the plot's cells": the plot's normal form
+pub record Returned (p f : Octagon) : Type 0 where
+  pub spread : Octagon
+  pub spread-accepted : dilation p f ≡ accepted spread
+  pub plot : Octagon
+  pub plot-normalised : normalised p ≡ accepted plot
+  pub returned : erosion spread f ≡ accepted plot

@@ -45,16 +45,18 @@ pub record Two (A : Cells) : Type 0 where
   pub other : Some A
   pub apart : ¬ (one .x ≡ other .x)
 
--- a diagonal row: two or more cells, all on one line x - y = constant, or all on one line x + y = constant
-pub record Rising (A : Cells) : Type 0 where
+-- a diagonal row: two or more cells, all on one line where d is constant
+pub record DiagonalRow (d : ℤ → ℤ → ℤ) (A : Cells) : Type 0 where
   pub line : ℤ
-  pub on-line : (x y : ℤ) → A x y → x -ℤ y ≡ line
+  pub on-line : (x y : ℤ) → A x y → d x y ≡ line
   pub two : Two A
 
-pub record Falling (A : Cells) : Type 0 where
-  pub line : ℤ
-  pub on-line : (x y : ℤ) → A x y → x +ℤ y ≡ line
-  pub two : Two A
+-- "all on one line x-y = constant or all on one line x+y = constant"
+abbrev pub Rising : Cells → Type 0
+Rising A = DiagonalRow (λ x y. x -ℤ y) A
+
+abbrev pub Falling : Cells → Type 0
+Falling A = DiagonalRow (λ x y. x +ℤ y) A
 
 -- opposed rows: one of each kind
 abbrev pub OpposedRows : Cells → Cells → Type 0

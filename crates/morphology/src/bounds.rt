@@ -1,10 +1,10 @@
-// Sums and differences of bounds, and the normal form of differences.
+// Sums, differences and multiples of bounds, and the answers that they make.
 ghost use mathlib.Core.Path.{_≡_};
-ghost use lib.IntN.{pos, _+ℤ_, _-ℤ_, _*ℤ_};
+ghost use lib.IntN.{pos, _*ℤ_};
 ghost use mir.Syntax.{w32};
 ghost use mir.Val.{SFits};
 ghost use Rattle.octagon.specs.Answers.{outcome};
-ghost use Rattle.octagon.specs.NormalForm.{normalised};
+ghost use Rattle.octagon.specs.NormalForm.{normalised, placed};
 ghost use Rattle.octagon.specs.Widths.{Held};
 ghost use Rattle.morphology.specs.Operations as operations;
 ghost use Rattle.morphology.specs.Folds as folds;
@@ -12,22 +12,10 @@ use crate::NOTHING_LEFT;
 use integers::times;
 use octagon::Answer;
 use octagon::NO_CELL;
+use octagon::OFF_MAP;
 use octagon::Octagon;
 use octagon::normalise;
-
-fn add(a: i32, b: i32) -> i32
-    requires { ⌜ SFits w32 (a +ℤ b) ⌝ }
-    ensures { λ r. ⌜ r ≡ a +ℤ b ⌝ }
-{
-    a + b
-}
-
-fn subtract(a: i32, b: i32) -> i32
-    requires { ⌜ SFits w32 (a -ℤ b) ⌝ }
-    ensures { λ r. ⌜ r ≡ a -ℤ b ⌝ }
-{
-    a - b
-}
+use octagon::on_map;
 
 fn multiple(n: u32, a: i32) -> i32
     requires { ⌜ SFits w32 (pos n *ℤ a) ⌝ }
@@ -42,14 +30,14 @@ pub fn sums(a: Octagon, b: Octagon) -> Octagon
     ensures { λ r. ⌜ r ≡ operations.sums a b ⌝ }
 {
     Octagon {
-        c0: add(a.c0, b.c0),
-        c1: add(a.c1, b.c1),
-        c2: add(a.c2, b.c2),
-        c3: add(a.c3, b.c3),
-        c4: add(a.c4, b.c4),
-        c5: add(a.c5, b.c5),
-        c6: add(a.c6, b.c6),
-        c7: add(a.c7, b.c7),
+        c0: a.c0 + b.c0,
+        c1: a.c1 + b.c1,
+        c2: a.c2 + b.c2,
+        c3: a.c3 + b.c3,
+        c4: a.c4 + b.c4,
+        c5: a.c5 + b.c5,
+        c6: a.c6 + b.c6,
+        c7: a.c7 + b.c7,
     }
 }
 
@@ -59,14 +47,14 @@ pub fn differences(a: Octagon, b: Octagon) -> Octagon
     ensures { λ r. ⌜ r ≡ operations.differences a b ⌝ }
 {
     Octagon {
-        c0: subtract(a.c0, b.c0),
-        c1: subtract(a.c1, b.c1),
-        c2: subtract(a.c2, b.c2),
-        c3: subtract(a.c3, b.c3),
-        c4: subtract(a.c4, b.c4),
-        c5: subtract(a.c5, b.c5),
-        c6: subtract(a.c6, b.c6),
-        c7: subtract(a.c7, b.c7),
+        c0: a.c0 - b.c0,
+        c1: a.c1 - b.c1,
+        c2: a.c2 - b.c2,
+        c3: a.c3 - b.c3,
+        c4: a.c4 - b.c4,
+        c5: a.c5 - b.c5,
+        c6: a.c6 - b.c6,
+        c7: a.c7 - b.c7,
     }
 }
 
@@ -85,6 +73,16 @@ pub fn multiples(n: u32, b: Octagon) -> Octagon
         c6: multiple(n, b.c6),
         c7: multiple(n, b.c7),
     }
+}
+
+// Normalised bounds as an answer: refused where they leave the map.
+pub fn place(o: Octagon) -> Answer
+    ensures { λ r. ⌜ outcome r ≡ placed o ⌝ }
+{
+    if on_map(o.c0 as i64, o.c2 as i64, o.c4 as i64, o.c6 as i64) {
+        return Answer::Octagon(o);
+    }
+    Answer::Refused(OFF_MAP)
 }
 
 // The normal form of differences of bounds: where they hold no cell, no position fits.

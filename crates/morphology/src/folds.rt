@@ -6,12 +6,12 @@ use crate::OPPOSED_ROWS;
 use crate::bounds::differences;
 use crate::bounds::fit;
 use crate::bounds::multiples;
+use crate::bounds::place;
 use crate::bounds::sums;
 use crate::rows::are_opposed;
 use octagon::Answer;
 use octagon::Octagon;
 use octagon::normalise;
-use octagon::place;
 
 // The most folds of a call.
 pub const FOLD_LIMIT: u32 = 65_535;

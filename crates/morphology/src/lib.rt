@@ -1,7 +1,8 @@
 // Dilation, erosion, opening and closing of octagons (document 01's spread, trim, opening and closing), and the n-fold forms.
 //
-// Each call takes any eight bounds for each operand and answers in constant time. specs/Operations.antt has the answers,
-// specs/Sets.antt the operations on sets, proofs/Dilations, Erosions, Openings and Laws the theorems between them.
+// Each call takes any eight bounds for each operand and answers in constant time. specs/Operations.antt and Folds.antt have the
+// answers, specs/Sets.antt the operations on sets, and specs/Cases.antt which answer is given where. The theorems between them are in
+// proofs/Dilations, Erosions, Openings and Closings, and the laws of demand 3 in proofs/Laws.
 ghost use mathlib.Core.Path.{_≡_};
 ghost use Rattle.octagon.specs.Answers.{outcome};
 ghost use Rattle.morphology.specs.Operations as operations;
@@ -35,7 +36,7 @@ pub fn dilate(plot: Octagon, element: Octagon) -> Answer
     if rows::are_opposed(a, b) {
         return Answer::Refused(OPPOSED_ROWS);
     }
-    octagon::place(bounds::sums(a, b))
+    bounds::place(bounds::sums(a, b))
 }
 
 // The positions at which the whole element stands inside the plot (document 01's trim).

@@ -6,7 +6,7 @@ use Rattle.integers.proofs.Linear.{Diff, #, _⊕_, neg, lit, _≼_, _≈_}
 use Rattle.octagon.specs.declared.Octagon.{Octagon}
 use Rattle.octagon.specs.NormalForm.{odd-bound, tight-even, tight-odd, normal-form}
 use Rattle.octagon.proofs.Within.{Normal}
-use Rattle.octagon.proofs.Tight.{Under, even-under, even-over, odd-under, odd-over}
+use Rattle.octagon.proofs.Tight.{Under, Below, even-under, even-over, odd-under, odd-over}
 
 -- the even bounds e of bounds c, each the greatest under its limits
 record Evens (c e : Octagon) : Type 0 where
@@ -93,10 +93,16 @@ even-side f b e a s p q r t =
     let h : # e ⊕ # e ⊕ neg (# (odd-bound f b e)) ≼ # (odd-bound e a s) = odd-over (# e ⊕ # e ⊕ neg (# (odd-bound f b e))) e a s (omega arith) in
     omega arith
 
--- the step over the odd bounds only brings them nearer
-slackened : (e : Octagon) → Meeting (tight-odd e) → Meeting e
+-- the step over the odd bounds makes each at most what it was, and at most the sum of its neighbours
+record Lowered (e n : Octagon) : Type 0 where
+  l1 : Below (# (n .c1)) (e .c0) (e .c1) (e .c2)
+  l3 : Below (# (n .c3)) (e .c2) (e .c3) (e .c4)
+  l5 : Below (# (n .c5)) (e .c4) (e .c5) (e .c6)
+  l7 : Below (# (n .c7)) (e .c6) (e .c7) (e .c0)
+
+lowered : (e : Octagon) → Lowered e (tight-odd e)
 unfolding tight-odd
-slackened e m =
+lowered e =
     omega (
       arith,
       odd-under (e .c0) (e .c1) (e .c2),
@@ -104,6 +110,11 @@ slackened e m =
       odd-under (e .c4) (e .c5) (e .c6),
       odd-under (e .c6) (e .c7) (e .c0),
     )
+
+-- so it only brings opposite bounds nearer
+slackened : (e : Octagon) → Meeting (tight-odd e) → Meeting e
+unfolding tight-odd
+slackened e m = let l : Lowered e (tight-odd e) = lowered e in omega arith
 
 -- the odd sides after the step over the odd bounds are nought or more
 pub record Odds (n : Octagon) : Type 0 where
@@ -114,14 +125,7 @@ pub record Odds (n : Octagon) : Type 0 where
 
 pub odds : (e : Octagon) → Odds (tight-odd e)
 unfolding tight-odd
-odds e =
-    omega (
-      arith,
-      odd-under (e .c0) (e .c1) (e .c2),
-      odd-under (e .c2) (e .c3) (e .c4),
-      odd-under (e .c4) (e .c5) (e .c6),
-      odd-under (e .c6) (e .c7) (e .c0),
-    )
+odds e = let l : Lowered e (tight-odd e) = lowered e in omega arith
 
 pub form-normal : (c : Octagon) → Meeting (normal-form c) → Normal (normal-form c)
 unfolding normal-form tight-odd

@@ -1,4 +1,4 @@
--- Document 01's case against a test of opposite bounds as they are given: c1 = c5 = 0, c3 = 1, c7 = -1, the others 5. Assumes nothing.
+-- Bounds that meet two by two and hold no cell, the shortcut that document 01 warns of: x - y is 2 and x + y is 5. Assumes nothing.
 use mathlib.Core.Path.{_≡_, refl}
 use mathlib.Core.Bool.{true}
 use lib.IntN.{pos, negsuc}
@@ -8,7 +8,7 @@ use Rattle.octagon.specs.Outcome.{refused, no-cell}
 use Rattle.octagon.specs.NormalForm.{even-bound, odd-bound, tight-even, tight-odd, normal-form, has-cell, normalised}
 
 abbrev crossing : Octagon
-crossing = record { c0 = pos 5; c1 = pos 0; c2 = pos 5; c3 = pos 1; c4 = pos 5; c5 = pos 0; c6 = pos 5; c7 = negsuc 0 }
+crossing = record { c0 = pos 6; c1 = pos 2; c2 = pos 7; c3 = pos 5; c4 = pos 8; c5 = negsuc 1; c6 = pos 9; c7 = negsuc 4 }
 
 -- its bounds meet two by two
 pub pairs-meet : has-cell crossing ≡ true

@@ -1,5 +1,6 @@
 -- The test that normalised bounds are on the map, in cells; and that such bounds fit an i32. Assumes nothing.
 use mathlib.Core.Path.{_≡_, sym, _∙_}
+use mathlib.Core.Logic.{_↔_}
 use mathlib.Core.Bool.{true, false}
 use Prim.Native.Nat.{_+_}
 use native.Mathlib.Omega.{arith}
@@ -12,11 +13,11 @@ use Rattle.integers.proofs.Tests.{and-le, test-le, le-test, and-true, true-is-n
 use Rattle.integers.proofs.Between.{decide}
 use Rattle.integers.proofs.Range.{room-near, room-fits32}
 use Rattle.octagon.specs.declared.Octagon.{Octagon}
-use Rattle.octagon.specs.Cells.{_⊆_, In, OnMap, LeavesMap, limit}
+use Rattle.octagon.specs.Cells.{_⊆_, In, OnMap, LeavesMap, Normalised, limit}
 use Rattle.octagon.specs.NormalForm.{is-on-map}
 use Rattle.octagon.specs.Widths.{Held}
 use Rattle.octagon.proofs.Within.{Within, Normal, Near, OnGrid, within, cell-in, on-grid, on-map}
-use Rattle.octagon.proofs.Vertices.{at, vertex-12, vertex-34, vertex-56, vertex-70}
+use Rattle.octagon.proofs.Vertices.{reached-normal, at, vertex-12, vertex-34, vertex-56, vertex-70}
 
 -- ---- the test
 
@@ -61,6 +62,13 @@ cells-near c n h =
       near4 = omega (arith, v3 .at-y, g3 .north);
       near6 = omega (arith, v5 .at-x, g5 .west);
     }
+
+-- the test holds of normalised bounds exactly where every cell is on the map
+pub on-map-exactly : (c : Octagon) → Normalised c → (is-on-map c ≡ true) ↔ (In c ⊆ OnMap)
+on-map-exactly c n = (
+  λ h. near-cells c (test-near c h),
+  λ h. near-test c (cells-near c (reached-normal c (n .reached)) h),
+)
 
 -- a vertex off the map
 pub far-cell : (c : Octagon) → Normal c → is-on-map c ≡ false → LeavesMap (In c)

@@ -6,14 +6,14 @@ use Prim.Native.Nat.{ℕ}
 use native.Mathlib.Omega.{arith}
 use Rattle.octagon.specs.declared.Octagon.{Octagon}
 use Rattle.octagon.specs.Outcome.{Outcome, accepted, refused, no-cell, off-map}
-use Rattle.octagon.specs.Cells.{_⊆_, _≐_, Empty, Some, In, OnMap, LeavesMap, Normalised, Represents}
-use Rattle.octagon.specs.NormalForm.{normalised}
+use Rattle.octagon.specs.Cells.{_⊆_, _≐_, Empty, Some, In, OnMap, LeavesMap, Normalised, OnlyOne, Represents}
+use Rattle.octagon.specs.NormalForm.{normal-form, normalised}
 use Rattle.octagon.proofs.Outcomes.{accepted-same, refused-same, accepted-not-refused}
 use Rattle.octagon.proofs.Within.{Normal, Near}
 use Rattle.octagon.proofs.Vertices.{normal-some, normal-normalised, reached-normal}
 use Rattle.octagon.proofs.Map.{near-cells, cells-near}
 use Rattle.octagon.proofs.Unique.{unique}
-use Rattle.octagon.proofs.Normalising.{Normalising, is-normal, is-empty, is-off, normalising}
+use Rattle.octagon.proofs.Normalising.{some-normal, form-cells, Normalising, is-normal, is-empty, is-off, normalising}
 
 -- accepted: exactly the same cells, each bound reached, every cell on the map
 pub accepted-means : (c a : Octagon) → normalised c ≡ accepted a → Represents a (In c)
@@ -24,6 +24,13 @@ accepted-means c a = go (normalising c)
         rw (← accepted-same q) (record { cells = s; is-normalised = normal-normalised b n; on-the-map = near-cells b m })
     go (is-empty h) q = absurd (accepted-not-refused (sym q))
     go (is-off n h) q = absurd (accepted-not-refused (sym q))
+
+-- its bounds as the proofs use them
+pub accepted-normal : (c a : Octagon) → normalised c ≡ accepted a → Normal a
+accepted-normal c a e = reached-normal a (accepted-means c a e .is-normalised .reached)
+
+pub accepted-near : (c a : Octagon) → normalised c ≡ accepted a → Near a
+accepted-near c a e = cells-near a (accepted-normal c a e) (accepted-means c a e .on-the-map)
 
 -- and that is so for all bounds that hold a cell and whose cells are on the map
 pub accepted-when : (c : Octagon) → Some (In c) → In c ⊆ OnMap → (a : Octagon) × (normalised c ≡ accepted a)
@@ -73,9 +80,23 @@ refused-only c k = go (normalising c)
 
 -- ---- one normal form
 
+-- bounds that hold a cell, on the map or off it, have a normal form: the same cells, each bound reached
+pub normal-form-is : (c : Octagon) → Some (In c) → Normalised (normal-form c) × (In (normal-form c) ≐ In c)
+normal-form-is c s = (normal-normalised (normal-form c) (some-normal c s), form-cells c)
+
 -- two normalised octagons with the same cells are equal, bound for bound
 pub normalised-unique : (a b : Octagon) → Normalised a → Normalised b → In a ≐ In b → a ≡ b
 normalised-unique a b n m h = unique (n .reached) (m .reached) h
+
+-- each octagon that holds a cell has one normalised form
+pub one-normal-form : (c : Octagon) → Some (In c) → OnlyOne (λ a. Normalised a × (In a ≐ In c))
+one-normal-form c s =
+    let f = normal-form-is c s in
+    record {
+      one = normal-form c;
+      holds = f;
+      no-other = λ b h. normalised-unique b (normal-form c) (h .0) (f .0) (λ x y. (λ i. f .1 x y .1 (h .1 x y .0 i), λ i. h .1 x y .1 (f .1 x y .0 i)));
+    }
 
 -- normalised bounds on the map are their own normal form
 pub normal-answer : (a : Octagon) → Normal a → Near a → normalised a ≡ accepted a
@@ -86,7 +107,4 @@ normal-answer a n m =
 
 -- so normalising an accepted answer gives it back
 pub normalised-again : (c a : Octagon) → normalised c ≡ accepted a → normalised a ≡ accepted a
-normalised-again c a q =
-    let t = accepted-means c a q in
-    let n = reached-normal a (t .is-normalised .reached) in
-    normal-answer a n (cells-near a n (t .on-the-map))
+normalised-again c a q = normal-answer a (accepted-normal c a q) (accepted-near c a q)

@@ -1,5 +1,5 @@
--- What the answer of `normalise` means in sets. `normalising` says it whole, for any eight bounds; the theorems below it
--- take it apart in the words of document 01. Assumes nothing.
+-- What the answer of `normalise` means in sets, said whole for any eight bounds: `normalising`. NormalForms.antt takes it apart
+-- in the words of document 01. Assumes nothing.
 use mathlib.Core.Path.{_≡_, refl, sym, _∙_}
 use mathlib.Core.Bool.{true}
 use native.Mathlib.Omega.{arith}
@@ -10,7 +10,7 @@ use Rattle.integers.proofs.Linear.{#, _⊕_, lit, _≼_}
 use Rattle.integers.proofs.Tests.{cases, both-true, test-le, le-test, and-true, true-is-not-false}
 use Rattle.octagon.specs.declared.Octagon.{Octagon}
 use Rattle.octagon.specs.Outcome.{Outcome, accepted, refused, no-cell, off-map}
-use Rattle.octagon.specs.Cells.{_≐_, Empty, In, LeavesMap}
+use Rattle.octagon.specs.Cells.{_≐_, Empty, Some, In, LeavesMap}
 use Rattle.octagon.specs.NormalForm.{meet, has-cell, is-on-map, placed, normal-form, normalised}
 use Rattle.octagon.specs.Widths.{Held}
 use Rattle.octagon.proofs.Within.{Within, Normal, Near, within, cell-in}
@@ -59,6 +59,10 @@ pub form-held : (c : Octagon) → has-cell (normal-form c) ≡ true → is-on-ma
 form-held c h m = near-held (normal-form c) (test-normal c h) (test-near (normal-form c) m)
 
 -- ---- the answer, whole
+
+-- bounds that hold a cell, on the map or off it: their normal form has sides of nought or more
+pub some-normal : (c : Octagon) → Some (In c) → Normal (normal-form c)
+some-normal c s = test-normal c (cell-test (normal-form c) (s .x) (s .y) (form-in c (s .x) (s .y) (within (s .cell))))
 
 pub form-cells : (c : Octagon) → In (normal-form c) ≐ In c
 form-cells c x y = (λ i. cell-in (form-out c x y (within i)), λ i. cell-in (form-in c x y (within i)))

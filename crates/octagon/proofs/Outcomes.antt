@@ -1,6 +1,6 @@
 -- Outcomes are told apart by their cases, and a step after another is taken apart. Assumes nothing.
 use mathlib.Core.Path.{_≡_, refl, sym, ap}
-use mathlib.Core.Logic.{_⊎_, inl, inr}
+use mathlib.Core.Logic.{_↔_, _⊎_, inl, inr}
 use Prim.Native.Nat.{ℕ}
 use native.Mathlib.Omega.{arith}
 use Rattle.octagon.specs.Outcome.{Outcome, accepted, refused, then}
@@ -29,3 +29,13 @@ pub then-refused : {A B : Type 0} (o : Outcome A) (f : A → Outcome B) (k : ℕ
     (o ≡ refused k) ⊎ ((a : A) × (o ≡ accepted a) × (f a ≡ refused k))
 then-refused (accepted a) f k q = inr (a, refl, q)
 then-refused (refused n) f k q = inl (ap refused (refused-same q))
+
+-- a step that never refuses: two steps are accepted with its value, and refused exactly as the first is
+pub map-accepted : {A B : Type 0} (o : Outcome A) (f : A → B) (b : B) → then o (λ a. accepted (f a)) ≡ accepted b →
+    (a : A) × (o ≡ accepted a) × (f a ≡ b)
+map-accepted (accepted a) f b e = (a, refl, accepted-same e)
+map-accepted (refused k) f b e = absurd (accepted-not-refused (sym e))
+
+pub map-refused : {A B : Type 0} (o : Outcome A) (f : A → B) (k : ℕ) → (then o (λ a. accepted (f a)) ≡ refused k) ↔ (o ≡ refused k)
+map-refused (accepted a) f k = (λ e. absurd (accepted-not-refused e), λ e. absurd (accepted-not-refused e))
+map-refused (refused m) f k = (λ e. ap refused (refused-same e), λ e. ap refused (refused-same e))

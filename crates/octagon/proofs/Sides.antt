@@ -1,4 +1,4 @@
--- Bounds are normalised exactly where the eight side lengths of document 01 are nought or more, and then the sides close. Assumes nothing.
+-- Bounds are normalised exactly where the eight side lengths of document 01 are nought or more; and the sides of any bounds close. Assumes nothing.
 use mathlib.Core.Path.{_≡_}
 use mathlib.Core.Logic.{_↔_}
 use native.Mathlib.Omega.{arith}
@@ -8,25 +8,9 @@ use Rattle.integers.proofs.Parts.{up, dn, sum-parts, diff-parts, le-parts, part
 use Rattle.integers.proofs.Linear.{#, _⊕_, neg, lit, _≼_, _≈_, le}
 use Rattle.octagon.specs.declared.Octagon.{Octagon}
 use Rattle.octagon.specs.Cells.{Normalised}
-use Rattle.octagon.specs.NormalForm.{Sides, sides, even-side, odd-side}
+use Rattle.octagon.specs.NormalForm.{sides, even-side, odd-side, NoughtOrMore, SidesClose}
 use Rattle.octagon.proofs.Within.{Normal}
 use Rattle.octagon.proofs.Vertices.{normal-normalised, reached-normal}
-
--- each side is nought or more
-pub record NoughtOrMore (s : Sides) : Type 0 where
-  pub more0 : pos 0 ≤ℤ s .n0
-  pub more1 : pos 0 ≤ℤ s .n1
-  pub more2 : pos 0 ≤ℤ s .n2
-  pub more3 : pos 0 ≤ℤ s .n3
-  pub more4 : pos 0 ≤ℤ s .n4
-  pub more5 : pos 0 ≤ℤ s .n5
-  pub more6 : pos 0 ≤ℤ s .n6
-  pub more7 : pos 0 ≤ℤ s .n7
-
--- the outline of the sides closes
-pub record Closes (s : Sides) : Type 0 where
-  pub across : s .n0 +ℤ s .n1 +ℤ s .n7 ≡ s .n3 +ℤ s .n4 +ℤ s .n5
-  pub upward : s .n1 +ℤ s .n2 +ℤ s .n3 ≡ s .n5 +ℤ s .n6 +ℤ s .n7
 
 -- ---- one side
 
@@ -83,7 +67,7 @@ pub normalised-sides : (c : Octagon) → Normalised c ↔ NoughtOrMore (sides c)
 normalised-sides c = (λ n. normal-sides c (reached-normal c (n .reached)), λ m. normal-normalised c (sides-normal c m))
 
 -- and the sides of any bounds close
-pub sides-close : (c : Octagon) → Closes (sides c)
+pub sides-close : (c : Octagon) → SidesClose (sides c)
 unfolding sides
 sides-close c =
     let n0 = even-side (c .c7) (c .c0) (c .c1) in

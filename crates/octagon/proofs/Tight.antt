@@ -1,4 +1,4 @@
--- The normal form has the same cells as its bounds, and where there is a cell its sides are nought or more. Assumes nothing.
+-- Each bound of the normal form is the greatest under its limits, and the normal form has the same cells as its bounds. Assumes nothing.
 use native.Mathlib.Omega.{arith}
 use lib.IntN.{ℤ, _+ℤ_}
 use Rattle.integers.specs.Minimum.{minℤ, halfℤ}

@@ -42,16 +42,18 @@ at-mosts {a} b r h = record {
   m7 = at-most (λ x y. negℤ x -ℤ y) (a .c7) (b .c7) h (λ x y i. i .in7) (r .reached7);
 }
 
-pub unique : {a b : Octagon} → Reached a → Reached b → In a ≐ In b → a ≡ b
-unique {a} {b} r s h =
-    let p = at-mosts b r (λ x y. h x y .0) in
-    let q = at-mosts a s (λ x y. h x y .1) in
+-- bounds that are at most each other are equal
+pub both-ways : (a b : Octagon) → AtMost a b → AtMost b a → a ≡ b
+both-ways a b h k =
     equal
-    (parts-eq (a .c0) (b .c0) (omega arith))
-    (parts-eq (a .c1) (b .c1) (omega arith))
-    (parts-eq (a .c2) (b .c2) (omega arith))
-    (parts-eq (a .c3) (b .c3) (omega arith))
-    (parts-eq (a .c4) (b .c4) (omega arith))
-    (parts-eq (a .c5) (b .c5) (omega arith))
-    (parts-eq (a .c6) (b .c6) (omega arith))
-    (parts-eq (a .c7) (b .c7) (omega arith))
+    (parts-eq (a .c0) (b .c0) (omega (arith, h .m0, k .m0)))
+    (parts-eq (a .c1) (b .c1) (omega (arith, h .m1, k .m1)))
+    (parts-eq (a .c2) (b .c2) (omega (arith, h .m2, k .m2)))
+    (parts-eq (a .c3) (b .c3) (omega (arith, h .m3, k .m3)))
+    (parts-eq (a .c4) (b .c4) (omega (arith, h .m4, k .m4)))
+    (parts-eq (a .c5) (b .c5) (omega (arith, h .m5, k .m5)))
+    (parts-eq (a .c6) (b .c6) (omega (arith, h .m6, k .m6)))
+    (parts-eq (a .c7) (b .c7) (omega (arith, h .m7, k .m7)))
+
+pub unique : {a b : Octagon} → Reached a → Reached b → In a ≐ In b → a ≡ b
+unique {a} {b} r s h = both-ways a b (at-mosts b r (λ x y. h x y .0)) (at-mosts a s (λ x y. h x y .1))

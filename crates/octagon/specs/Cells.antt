@@ -72,6 +72,12 @@ pub record Normalised (c : Octagon) : Type 0 where
   pub some : Some (In c)
   pub reached : Reached c
 
+-- P holds of one octagon and of no other
+pub record OnlyOne (P : Octagon → Type 0) : Type 0 where
+  pub one : Octagon
+  pub holds : P one
+  pub no-other : (b : Octagon) → P b → b ≡ one
+
 -- the octagon a stands for the set A: it has the cells of A, its bounds are normalised, and it is on the map
 pub record Represents (a : Octagon) (A : Cells) : Type 0 where
   pub cells : In a ≐ A

@@ -1,14 +1,15 @@
 -- The normal form of eight bounds, its sides, and the answer of `normalise`: definitions that compute.
--- proofs/NormalForms.antt says what they mean in sets. Assumes nothing.
+-- proofs/NormalForms.antt says what the answers mean in sets, proofs/Sides.antt what the sides tell. Assumes nothing.
+use mathlib.Core.Path.{_≡_}
 use mathlib.Core.Bool.{Bool, cond, _&&_}
 use lib.IntN.{ℤ, pos, _+ℤ_, _-ℤ_}
-use lib.Signed.{leZ}
+use lib.Signed.{leZ, _≤ℤ_}
 use Rattle.integers.specs.Minimum.{minℤ, halfℤ}
 use Rattle.octagon.specs.declared.Octagon.{Octagon}
 use Rattle.octagon.specs.Outcome.{Outcome, accepted, refused, no-cell, off-map}
 use Rattle.octagon.specs.Cells.{limit}
 
--- the least that an even bound can be: its own value, two sums of bounds across a corner, half the sum of its neighbours
+-- the least that an even bound can be: its own value, two sums of a neighbour and the even bound beyond the other, half the sum of its neighbours
 unfoldable pub even-bound : ℤ → ℤ → ℤ → ℤ → ℤ → ℤ
 even-bound far-before before own after far-after =
     minℤ (minℤ own (far-before +ℤ after)) (minℤ (before +ℤ far-after) (halfℤ (before +ℤ after)))
@@ -73,6 +74,22 @@ sides c = record {
   n6 = even-side (c .c5) (c .c6) (c .c7);
   n7 = odd-side (c .c6) (c .c7) (c .c0);
 }
+
+-- each side is nought or more
+pub record NoughtOrMore (s : Sides) : Type 0 where
+  pub more0 : pos 0 ≤ℤ s .n0
+  pub more1 : pos 0 ≤ℤ s .n1
+  pub more2 : pos 0 ≤ℤ s .n2
+  pub more3 : pos 0 ≤ℤ s .n3
+  pub more4 : pos 0 ≤ℤ s .n4
+  pub more5 : pos 0 ≤ℤ s .n5
+  pub more6 : pos 0 ≤ℤ s .n6
+  pub more7 : pos 0 ≤ℤ s .n7
+
+-- the sides close: as many columns are walked forth as back, and as many rows up as down
+pub record SidesClose (s : Sides) : Type 0 where
+  pub across : s .n0 +ℤ s .n1 +ℤ s .n7 ≡ s .n3 +ℤ s .n4 +ℤ s .n5
+  pub upward : s .n1 +ℤ s .n2 +ℤ s .n3 ≡ s .n5 +ℤ s .n6 +ℤ s .n7
 
 -- two opposite bounds leave a line between them
 abbrev pub meet : ℤ → ℤ → Bool

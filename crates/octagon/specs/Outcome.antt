@@ -10,6 +10,11 @@ abbrev pub then : {A B : Type 0} → Outcome A → (A → Outcome B) → Outcome
 then (accepted a) f = f a
 then (refused n) f = refused n
 
+-- what a call leaves of m, which it was lent: what f makes of its value where it is accepted, and m itself where it is refused
+abbrev pub left : {A B : Type 0} → B → Outcome A → (A → B) → B
+left m (accepted a) f = f a
+left m (refused n) f = m
+
 -- the refusal numbers of this crate: the bounds hold no cell; some cell lies off the map
 abbrev pub no-cell : ℕ
 no-cell = 1

@@ -1,7 +1,7 @@
 // Octagons of whole cells by their eight bounds, and their normal form.
 //
 // The cells of an octagon are those with -y <= c0, x-y <= c1, x <= c2, x+y <= c3, y <= c4, -x+y <= c5, -x <= c6, -x-y <= c7.
-// specs/Cells.antt has the sets, specs/NormalForm.antt what `normalise` answers, proofs/Normalising.antt and NormalForms.antt the theorems between them.
+// specs/Cells.antt has the sets, specs/NormalForm.antt what `normalise` answers, proofs/NormalForms.antt the theorems between them.
 ghost use mathlib.Core.Path.{_≡_};
 ghost use Rattle.octagon.specs.NormalForm as form;
 ghost use Rattle.octagon.specs.Answers.{outcome};
@@ -87,14 +87,4 @@ pub fn on_map(c0: i64, c2: i64, c4: i64, c6: i64) -> bool
     ensures { λ r. ⌜ r ≡ form.are-within-limit c0 c2 c4 c6 ⌝ }
 {
     within_limit(c0) & within_limit(c2) & within_limit(c4) & within_limit(c6)
-}
-
-// Normalised bounds as an answer: refused where they leave the map.
-pub fn place(o: Octagon) -> Answer
-    ensures { λ r. ⌜ outcome r ≡ form.placed o ⌝ }
-{
-    if on_map(o.c0 as i64, o.c2 as i64, o.c4 as i64, o.c6 as i64) {
-        return Answer::Octagon(o);
-    }
-    Answer::Refused(OFF_MAP)
 }

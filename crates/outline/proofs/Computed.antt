@@ -1,7 +1,8 @@
--- Cases of document 01 that antt computes. Assumes nothing.
+-- Small values of the definitions, computed: an outline whose eight sides differ, its octagon, its vertices in metres, and refusals.
+-- Assumes nothing.
 use mathlib.Core.Path.{_≡_, refl}
-use mathlib.Core.Bool.{false}
-use Prim.Native.Nat.{ℕ}
+use mathlib.Core.Bool.{true, false}
+use mathlib.Core.List.{[], _∷_}
 use lib.IntN.{pos, negsuc}
 use lib.Ieee.{fin, round}
 use Rattle.integers.specs.Minimum.{minℤ, halfℤ}
@@ -10,55 +11,47 @@ use Rattle.octagon.specs.Outcome.{accepted, refused}
 use Rattle.octagon.specs.NormalForm.{even-bound, odd-bound, tight-even, tight-odd, normal-form, sides, has-cell, is-on-map, placed, normalised}
 use Rattle.outline.specs.declared.Outline.{Outline}
 use Rattle.outline.specs.Closing.{closes}
-use Rattle.outline.specs.Walk.{vertex}
+use Rattle.outline.specs.Walk.{with-sides, vertex}
 use Rattle.outline.specs.Tracing.{bounds-at, drawn, traced}
 use Rattle.outline.specs.Outlining.{outline-of, outlined}
-use Rattle.outline.specs.Places.{over, corner-place, located}
+use Rattle.outline.specs.Places.{over, place-of-vertex, located}
 
--- the outline that starts at (0, 0)
-abbrev from-origin : ℕ → ℕ → ℕ → ℕ → ℕ → ℕ → ℕ → ℕ → Outline
-from-origin n0 n1 n2 n3 n4 n5 n6 n7 =
-    record { i = pos 0; j = pos 0; n0 = n0; n1 = n1; n2 = n2; n3 = n3; n4 = n4; n5 = n5; n6 = n6; n7 = n7 }
+-- the outline from (-4, -5) with the sides 3 1 14 2 5 4 6 7, and its bounds
+abbrev uneven : Outline
+uneven = with-sides (negsuc 3) (negsuc 4) (3 ∷ 1 ∷ 14 ∷ 2 ∷ 5 ∷ 4 ∷ 6 ∷ 7 ∷ [])
 
-abbrev bounds : ℕ → ℕ → ℕ → ℕ → ℕ → ℕ → ℕ → ℕ → Octagon
-bounds c0 c1 c2 c3 c4 c5 c6 c7 =
-    record { c0 = pos c0; c1 = pos c1; c2 = pos c2; c3 = pos c3; c4 = pos c4; c5 = pos c5; c6 = pos c6; c7 = pos c7 }
+abbrev its-bounds : Octagon
+its-bounds = record { c0 = pos 5; c1 = pos 4; c2 = pos 0; c3 = pos 10; c4 = pos 12; c5 = pos 19; c6 = pos 11; c7 = pos 9 }
 
--- "Outline n0=1 alone: 3"
-open-outline : traced (from-origin 1 0 0 0 0 0 0 0) ≡ refused 3
-unfolding traced closes
-open-outline = refl
-
--- "All lengths 0 means one cell"
-one-cell : traced (from-origin 0 0 0 0 0 0 0 0) ≡ accepted (bounds 0 0 0 0 0 0 0 0)
+there : traced uneven ≡ accepted its-bounds
 unfolding traced closes placed is-on-map drawn bounds-at vertex
-one-cell = refl
+there = refl
 
--- "Block n0=2 n2=1 n4=2 n6=1 at (0,0)"
-block : traced (from-origin 2 0 1 0 2 0 1 0) ≡ accepted (bounds 0 2 2 3 1 1 0 0)
-unfolding traced closes placed is-on-map drawn bounds-at vertex
-block = refl
-
-block-back : outlined (bounds 0 2 2 3 1 1 0 0) ≡ accepted (from-origin 2 0 1 0 2 0 1 0)
+back : outlined its-bounds ≡ accepted uneven
 unfolding outlined normalised normal-form tight-odd tight-even even-bound odd-bound minℤ halfℤ has-cell placed is-on-map outline-of sides
-block-back = refl
+back = refl
 
--- lengths that would wrap 32 bits close, and leave the map
-long : traced (from-origin 4294967295 0 4294967295 0 4294967295 0 4294967295 0) ≡ refused 2
+-- with its first side one longer it does not close
+one-longer : traced (with-sides (negsuc 3) (negsuc 4) (4 ∷ 1 ∷ 14 ∷ 2 ∷ 5 ∷ 4 ∷ 6 ∷ 7 ∷ [])) ≡ refused 3
+unfolding traced closes
+one-longer = refl
+
+-- lengths whose sums wrap 32 bits close, and leave the map
+long : traced (with-sides (negsuc 3) (negsuc 4) (4294967295 ∷ 0 ∷ 4294967294 ∷ 0 ∷ 4294967295 ∷ 0 ∷ 4294967294 ∷ 0 ∷ [])) ≡ refused 2
 unfolding traced closes placed is-on-map drawn bounds-at vertex
 long = refl
 
--- "Corner 2 of the spread is 0.75 east, 0.25 north", for the octagon of the sides 2 1 1 1 2 1 1 1
-corner-2 : located (bounds 0 2 3 5 3 3 1 0) 2 ≡ accepted (record { east = fin false 3 (negsuc 1); north = fin false 1 (negsuc 1) })
-unfolding located corner-place over round vertex outlined normalised normal-form tight-odd tight-even even-bound odd-bound minℤ halfℤ has-cell placed is-on-map outline-of sides
-corner-2 = refl
+-- vertex 2 is the cell (0, -4): 0 east, with a positive zero, and -1 north
+vertex-2 : located its-bounds 2 ≡ accepted (record { east = fin false 0 (pos 0); north = fin true 1 (pos 0) })
+unfolding located place-of-vertex over round vertex outlined normalised normal-form tight-odd tight-even even-bound odd-bound minℤ halfℤ has-cell placed is-on-map outline-of sides
+vertex-2 = refl
 
--- its corner 0 is the origin, with positive zeros
-corner-0 : located (bounds 0 2 3 5 3 3 1 0) 0 ≡ accepted (record { east = fin false 0 (pos 0); north = fin false 0 (pos 0) })
-unfolding located corner-place over round vertex outlined normalised normal-form tight-odd tight-even even-bound odd-bound minℤ halfℤ has-cell placed is-on-map outline-of sides
-corner-0 = refl
+-- vertex 6 is the cell (-11, 8): -2.75 east and 2 north
+vertex-6 : located its-bounds 6 ≡ accepted (record { east = fin true 11 (negsuc 1); north = fin false 1 (pos 1) })
+unfolding located place-of-vertex over round vertex outlined normalised normal-form tight-odd tight-even even-bound odd-bound minℤ halfℤ has-cell placed is-on-map outline-of sides
+vertex-6 = refl
 
--- and it has no corner 8
-corner-8 : located (bounds 0 2 3 5 3 3 1 0) 8 ≡ refused 7
-unfolding located corner-place outlined normalised normal-form tight-odd tight-even even-bound odd-bound minℤ halfℤ has-cell placed is-on-map outline-of sides
-corner-8 = refl
+-- there is no vertex 8
+vertex-8 : located its-bounds 8 ≡ refused 7
+unfolding located place-of-vertex outlined normalised normal-form tight-odd tight-even even-bound odd-bound minℤ halfℤ has-cell placed is-on-map outline-of sides
+vertex-8 = refl

@@ -1,4 +1,5 @@
--- The bounds of an outline as linear facts, and that they are normalised where it closes. Assumes nothing.
+-- The vertices and bounds of an outline as linear facts. Where it closes its bounds are normalised, and on the map they fit 32 bits.
+-- Assumes nothing.
 use mathlib.Core.Path.{_≡_}
 use mathlib.Core.Bool.{true}
 use Prim.Native.Nat.{_+_}
@@ -20,7 +21,7 @@ use Rattle.outline.specs.Tracing.{bounds-at, drawn}
 use Rattle.outline.proofs.Steps.{forth, still, back}
 use Rattle.outline.proofs.Closed.{test-closes}
 
--- each corner from the one before it
+-- each vertex from the one before it
 pub record Walked (o : Outline) : Type 0 where
   pub x0 : # (vertex o 0 .x) ≈ # (o .i)
   pub y0 : # (vertex o 0 .y) ≈ # (o .j)
@@ -64,7 +65,7 @@ walked o = record {
   y8 = back (vertex o 7 .y) (o .n7);
 }
 
--- the bounds that four corners reach
+-- the bounds that four vertices reach
 pub record Reached (c : Octagon) (v1 v3 v5 v7 : Cell) : Type 0 where
   pub d0 : # (c .c0) ≈ neg (# (v1 .y))
   pub d1 : # (c .c1) ≈ # (v1 .x) ⊕ neg (# (v1 .y))

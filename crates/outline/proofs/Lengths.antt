@@ -16,31 +16,29 @@ use Rattle.octagon.specs.Cells.{limit}
 use Rattle.octagon.specs.NormalForm.{sides, even-side, odd-side, normalised}
 use Rattle.octagon.specs.Outcome.{accepted}
 use Rattle.octagon.proofs.Within.{Normal, Near}
-use Rattle.octagon.proofs.Vertices.{reached-normal}
-use Rattle.octagon.proofs.Map.{cells-near}
-use Rattle.octagon.proofs.NormalForms.{accepted-means}
+use Rattle.octagon.proofs.NormalForms.{accepted-normal, accepted-near}
 use Rattle.octagon.proofs.Sides.{normal-sides, even-is, odd-is}
-use Rattle.outline.specs.Outlining.{Length, Sized}
+use Rattle.outline.specs.Outlining.{SideLength, Sized}
 
 -- ---- one side
 
 -- a side of 64 bits is cast to 32
-pub cast : {y z : ℤ} → y ≡ z → SFits w64 z → Length z → T (nonNeg (toZ w64 (ofZ w64 y))) × Fits w32 (natAbs (toZ w64 (ofZ w64 y)))
+pub cast : {y z : ℤ} → y ≡ z → SFits w64 z → SideLength z → T (nonNeg (toZ w64 (ofZ w64 y))) × Fits w32 (natAbs (toZ w64 (ofZ w64 y)))
 cast e f l = rw (e, toZ-ofZ f) (yes-nonNeg (l .more), l .fits)
 
 -- the most that a side of an octagon on the map can be found to be
 abbrev most : ℕ
 most = 6 * limit
 
-length : (z : ℤ) → pos 0 ≤ℤ z → # z ≼ lit most → Length z
+length : (z : ℤ) → pos 0 ≤ℤ z → # z ≼ lit most → SideLength z
 unfolding up dn
 length (pos n) h l = record { more = h; fits = record { fits = omega arith } }
 length (negsuc n) h l = absurd (omega (arith, le-parts h))
 
-even : (b o a : ℤ) → pos 0 ≤ℤ even-side b o a → # b ⊕ # a ≼ # o ⊕ # o ⊕ lit most → Length (even-side b o a)
+even : (b o a : ℤ) → pos 0 ≤ℤ even-side b o a → # b ⊕ # a ≼ # o ⊕ # o ⊕ lit most → SideLength (even-side b o a)
 even b o a h l = length (even-side b o a) h (omega (arith, even-is b o a))
 
-odd : (b o a : ℤ) → pos 0 ≤ℤ odd-side b o a → # b ⊕ # a ≼ # o ⊕ lit most → Length (odd-side b o a)
+odd : (b o a : ℤ) → pos 0 ≤ℤ odd-side b o a → # b ⊕ # a ≼ # o ⊕ lit most → SideLength (odd-side b o a)
 odd b o a h l = length (odd-side b o a) h (omega (arith, odd-is b o a))
 
 -- ---- all eight, and the start
@@ -64,7 +62,4 @@ normal-sized a n m =
 
 -- an accepted answer of `normalise` is such
 pub accepted-sized : (c a : Octagon) → normalised c ≡ accepted a → Sized a
-accepted-sized c a q =
-    let t = accepted-means c a q in
-    let n = reached-normal a (t .is-normalised .reached) in
-    normal-sized a n (cells-near a n (t .on-the-map))
+accepted-sized c a q = normal-sized a (accepted-normal c a q) (accepted-near c a q)

@@ -5,7 +5,8 @@ pub mod Closed
 pub mod Drawn
 pub mod Inside
 pub mod Tracings
-pub mod Corners
+pub mod OneCell
+pub mod Vertices
 pub mod Lengths
 pub mod RoundTrips
 pub mod Over

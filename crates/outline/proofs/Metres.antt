@@ -1,4 +1,4 @@
--- Corners in metres, in the words of document 01. Assumes nothing.
+-- Vertices in metres, in the words of document 01: exact quarters, and what each refusal says. Assumes nothing.
 use mathlib.Core.Path.{_≡_, refl, sym, ap, _∙_}
 use mathlib.Core.Bool.{true}
 use mathlib.Core.Logic.{_↔_, _⊎_, inl, inr, ⊎-elim}
@@ -25,26 +25,27 @@ use Rattle.outline.specs.declared.Outline.{Outline}
 use Rattle.outline.specs.declared.place.Place.{Place}
 use Rattle.outline.specs.Walk.{vertex}
 use Rattle.outline.specs.Outlining.{outlined}
-use Rattle.outline.specs.Places.{Exactly, Fitting, over, place-of, no-vertex, corner-place, located}
+use Rattle.outline.specs.Meaning.{InMetres}
+use Rattle.outline.specs.Places.{Exactly, HeldCell, over, place-of, no-vertex, place-of-vertex, located}
 use Rattle.outline.proofs.Tracings as tracings
-use Rattle.outline.proofs.Corners.{corners}
+use Rattle.outline.proofs.Vertices.{vertices}
 use Rattle.outline.proofs.RoundTrips.{outline-octagon, outlined-refusals}
 use Rattle.outline.proofs.Over.{over-exact}
 
--- ---- the corners of an accepted outline are on the map
+-- ---- the vertices of an accepted outline are on the map
 
-pub corner-on-map : (c : Octagon) (o : Outline) → outlined c ≡ accepted o → (k : ℕ) → k < 8 → OnMap (vertex o k .x) (vertex o k .y)
-corner-on-map c o q k h =
+pub vertex-on-map : (c : Octagon) (o : Outline) → outlined c ≡ accepted o → (k : ℕ) → k < 8 → OnMap (vertex o k .x) (vertex o k .y)
+vertex-on-map c o q k h =
     let t = outline-octagon c o q in
-    tracings.accepted-means o (t .0) (t .2) .on-the-map (vertex o k .x) (vertex o k .y) (corners o (t .0) (t .2) k h .inside)
+    tracings.accepted-means o (t .0) (t .2) .on-the-map (vertex o k .x) (vertex o k .y) (vertices o (t .0) (t .2) k h .inside)
 
 fits : {x y : ℤ} → OnMap x y → SFits w32 x × SFits w32 y
 fits {x} {y} m =
     let g = on-grid m in
     (room-fits32 (room-near 32 limit x tt (g .east) (omega arith)), room-fits32 (room-near 32 limit y tt (g .north) (omega arith)))
 
-pub corner-fits : (c : Octagon) (o : Outline) → outlined c ≡ accepted o → (k : ℕ) → k < 8 → Fitting (vertex o k)
-corner-fits c o q k h = let f = fits (corner-on-map c o q k h) in record { fits-x = f .0; fits-y = f .1 }
+pub vertex-fits : (c : Octagon) (o : Outline) → outlined c ≡ accepted o → (k : ℕ) → k < 8 → HeldCell (vertex o k)
+vertex-fits c o q k h = let f = fits (vertex-on-map c o q k h) in record { fits-x = f .0; fits-y = f .1 }
 
 -- ---- exact quarters
 
@@ -58,23 +59,15 @@ no-minus-zero (negsuc n) e v = lt-irrefl 0 (rw (← (v .1), zero-mul, zero-mul) 
 
 -- ---- the answers
 
--- what an accepted place p of corner k says of the bounds c
-pub record InMetres (c : Octagon) (k : ℕ) (p : Place) : Type 0 where
-  pub outline : Outline
-  pub its-outline : outlined c ≡ accepted outline
-  pub a-corner : k ≤ 7
-  pub east-exact : Exactly (vertex outline k .x) 4 (p .east)
-  pub north-exact : Exactly (vertex outline k .y) 4 (p .north)
+place-when : (o : Outline) (k : ℕ) → k ≤ 7 → place-of-vertex o k ≡ accepted (place-of (vertex o k .x) (vertex o k .y))
+unfolding place-of-vertex
+place-when o k h = rw (le-ltb 7 k h)
 
-corner-when : (o : Outline) (k : ℕ) → k ≤ 7 → corner-place o k ≡ accepted (place-of (vertex o k .x) (vertex o k .y))
-unfolding corner-place
-corner-when o k h = rw (le-ltb 7 k h)
+no-vertex-when : (o : Outline) (k : ℕ) → 7 < k → place-of-vertex o k ≡ refused no-vertex
+unfolding place-of-vertex
+no-vertex-when o k h = rw (lt-ltb 7 k h)
 
-no-corner-when : (o : Outline) (k : ℕ) → 7 < k → corner-place o k ≡ refused no-vertex
-unfolding corner-place
-no-corner-when o k h = rw (lt-ltb 7 k h)
-
-located-is : (c : Octagon) (o : Outline) → outlined c ≡ accepted o → (k : ℕ) → located c k ≡ corner-place o k
+located-is : (c : Octagon) (o : Outline) → outlined c ≡ accepted o → (k : ℕ) → located c k ≡ place-of-vertex o k
 unfolding located
 located-is c o q k = rw q
 
@@ -84,8 +77,8 @@ located-refused c n q k = rw q
 
 in-metres : (c : Octagon) (o : Outline) → outlined c ≡ accepted o → (k : ℕ) → k ≤ 7 → InMetres c k (place-of (vertex o k .x) (vertex o k .y))
 in-metres c o q k h =
-    let f = corner-fits c o q k (omega arith) in
-    record { outline = o; its-outline = q; a-corner = h; east-exact = quarter-exact (f .fits-x); north-exact = quarter-exact (f .fits-y) }
+    let f = vertex-fits c o q k (omega arith) in
+    record { outline = o; its-outline = q; a-vertex = h; east-exact = quarter-exact (f .fits-x); north-exact = quarter-exact (f .fits-y) }
 
 -- each answer, with what it says of the bounds c and the number k
 pub data Locating (c : Octagon) (k : ℕ) : Outcome Place → Type 0 where
@@ -99,8 +92,8 @@ locating c k = go (outlined c) refl
     go : (t : Outcome Outline) → outlined c ≡ t → Locating c k (located c k)
     go (accepted o) q =
         cases (ltb 7 k)
-        (λ h. let l = ltb-true 7 k h in rw (located-is c o q k, no-corner-when o k l) (is-past o q l))
-        (λ h. let l = ltb-false 7 k h in rw (located-is c o q k, corner-when o k l) (is-place (place-of (vertex o k .x) (vertex o k .y)) (in-metres c o q k l)))
+        (λ h. let l = ltb-true 7 k h in rw (located-is c o q k, no-vertex-when o k l) (is-past o q l))
+        (λ h. let l = ltb-false 7 k h in rw (located-is c o q k, place-when o k l) (is-place (place-of (vertex o k .x) (vertex o k .y)) (in-metres c o q k l)))
     go (refused n) q = rw (located-refused c n q k) (is-refused n (outlined-refusals c n .0 q))
 
 -- "each number in a place is exactly a quarter of the cell number"
@@ -112,13 +105,13 @@ accepted-means c k p = go (locating c k)
     go (is-past o e l) q = absurd (accepted-not-refused (sym q))
     go (is-refused n e) q = absurd (accepted-not-refused (sym q))
 
--- and every corner of an octagon on the map has a place
+-- and every vertex of an octagon on the map has a place
 pub accepted-when : (c : Octagon) (o : Outline) → outlined c ≡ accepted o → (k : ℕ) → k ≤ 7 → (p : Place) × (located c k ≡ accepted p)
-accepted-when c o q k h = (place-of (vertex o k .x) (vertex o k .y), located-is c o q k ∙ corner-when o k h)
+accepted-when c o q k h = (place-of (vertex o k .x) (vertex o k .y), located-is c o q k ∙ place-when o k h)
 
 -- "7 when the corner number is above 7": exactly then, where the bounds are accepted
 pub refused-no-vertex : (c : Octagon) (k : ℕ) → (located c k ≡ refused no-vertex) ↔ (((o : Outline) × (outlined c ≡ accepted o)) × (7 < k))
-refused-no-vertex c k = (to (locating c k), λ h. located-is c (h .0 .0) (h .0 .1) k ∙ no-corner-when (h .0 .0) k (h .1))
+refused-no-vertex c k = (to (locating c k), λ h. located-is c (h .0 .0) (h .0 .1) k ∙ no-vertex-when (h .0 .0) k (h .1))
   where
     to : {t : Outcome Place} → Locating c k t → t ≡ refused no-vertex → ((o : Outline) × (outlined c ≡ accepted o)) × (7 < k)
     to (is-place r m) q = absurd (accepted-not-refused q)

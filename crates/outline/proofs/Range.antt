@@ -1,4 +1,4 @@
--- How far a walk can go: from a start and lengths of 32 bits every corner is far within 64. Assumes nothing.
+-- How far a walk can go: from a start and lengths of 32 bits every vertex, and every move, is within 64. Assumes nothing.
 use Prim.Native.Nat.{ℕ, zero, suc, _*_, _^_, _<_, _≤_}
 use native.Mathlib.Nat.{mul-le-mul-right, lt-of-le-of-lt}
 use native.Mathlib.Omega.{arith}
@@ -27,7 +27,7 @@ pub product-fits : (d : ℤ) (n : ℕ) → SFits w32 d → Fits w32 n → SFits 
 product-fits (pos a) n f g = record { sfits = below a n (omega (arith, f .sfits)) (g .fits) }
 product-fits (negsuc a) n f g = record { sfits = lt-of-le-of-lt (neg-mag (suc a * n)) (below (suc a) n (omega (arith, f .sfits)) (g .fits)) }
 
--- ---- the corners
+-- ---- the vertices
 
 -- an outline as the machine holds it
 pub record Held (o : Outline) : Type 0 where
@@ -80,22 +80,22 @@ start-far f = let p = room-parts (room-i32 30 tt f) in omega arith
 step-far : (k : ℕ) (a b : ℤ) (n : ℕ) → n < 2 ^ 32 → Far (suc k * 2 ^ 32) a → Far n b → Far (suc (suc k) * 2 ^ 32) (a +ℤ b)
 step-far k a b n h f g = omega (arith, sum-up a b, sum-dn a b)
 
-pub corner-far : (o : Outline) → Held o → (k : ℕ) → k ≤ 8 → Far (suc k * 2 ^ 32) (vertex o k .x) × Far (suc k * 2 ^ 32) (vertex o k .y)
+pub vertex-far : (o : Outline) → Held o → (k : ℕ) → k ≤ 8 → Far (suc k * 2 ^ 32) (vertex o k .x) × Far (suc k * 2 ^ 32) (vertex o k .y)
 unfolding vertex
-corner-far o h zero l = let p = start-far (h .held-i) in let q = start-far (h .held-j) in omega arith
-corner-far o h (suc k) l =
-    let f = corner-far o h k (omega arith) in
+vertex-far o h zero l = let p = start-far (h .held-i) in let q = start-far (h .held-j) in omega arith
+vertex-far o h (suc k) l =
+    let f = vertex-far o h k (omega arith) in
     let n = side-fits o h k (omega arith) in (
       step-far k (vertex o k .x) (east k *ℤ pos (side o k)) (side o k) n (f .0) (east-small k (omega arith) (side o k)),
       step-far k (vertex o k .y) (north k *ℤ pos (side o k)) (side o k) n (f .1) (north-small k (omega arith) (side o k)),
     )
 
--- the coordinates of corner k leave room for sums
+-- the coordinates of vertex k leave room for sums
 pub record Roomy (v : Cell) : Type 0 where
   pub room-x : Room 2 (v .x)
   pub room-y : Room 2 (v .y)
 
-pub corner-room : (o : Outline) → Held o → (k : ℕ) → k ≤ 8 → Roomy (vertex o k)
-corner-room o h k l =
-    let f = corner-far o h k l in
+pub vertex-room : (o : Outline) → Held o → (k : ℕ) → k ≤ 8 → Roomy (vertex o k)
+vertex-room o h k l =
+    let f = vertex-far o h k l in
     record { room-x = room 2 (omega (arith, f .0)) (omega (arith, f .0)); room-y = room 2 (omega (arith, f .1)) (omega (arith, f .1)) }

@@ -1,21 +1,20 @@
 -- "Normalised bounds and a boundary code turn into each other without loss." Assumes nothing.
-use mathlib.Core.Path.{_≡_, refl, sym, _∙_, ap}
+use mathlib.Core.Path.{_≡_, sym, _∙_, ap}
 use mathlib.Core.Logic.{_↔_}
 use Prim.Native.Nat.{ℕ}
 use native.Mathlib.Omega.{arith}
-use lib.IntN.{ℤ, pos, negsuc, natAbs}
+use lib.IntN.{ℤ, pos, natAbs}
 use Rattle.integers.proofs.Parts.{up, dn, diff-parts, neg-up, neg-dn, parts-eq}
-use Rattle.integers.proofs.Linear.{Diff, #, _⊕_, neg, lit, _≼_, _≈_}
+use Rattle.integers.proofs.Linear.{#, _⊕_, neg, lit, _≼_, _≈_, natural}
 use Rattle.octagon.specs.declared.Octagon.{Octagon}
-use Rattle.octagon.specs.Outcome.{Outcome, accepted, refused, then}
+use Rattle.octagon.specs.Outcome.{Outcome, accepted, refused}
 use Rattle.octagon.specs.NormalForm.{sides, even-side, odd-side, placed, normalised}
-use Rattle.octagon.proofs.Outcomes.{accepted-same, accepted-not-refused}
+use Rattle.octagon.proofs.Outcomes.{accepted-same, accepted-not-refused, map-accepted, map-refused}
 use Rattle.octagon.proofs.Within.{Normal, Near}
 use Rattle.octagon.proofs.Map.{near-test}
 use Rattle.octagon.proofs.Sides.{even-is, odd-is}
 use Rattle.octagon.proofs.Unique.{equal}
-use Rattle.octagon.proofs.Normalising.{Normalising, is-normal, is-empty, is-off, normalising}
-use Rattle.octagon.proofs.NormalForms.{normal-answer}
+use Rattle.octagon.proofs.NormalForms.{accepted-normal, accepted-near, normal-answer}
 use Rattle.outline.specs.declared.Outline.{Outline}
 use Rattle.outline.specs.Closing.{Closes}
 use Rattle.outline.specs.Tracing.{drawn, traced}
@@ -26,7 +25,7 @@ use Rattle.outline.proofs.Tracings.{Tracing, is-octagon, is-open, is-of
 
 -- ---- the outline of normalised bounds, as linear facts
 
-record Outlined (a : Octagon) (o : Outline) : Type 0 where
+record SidesOf (a : Octagon) (o : Outline) : Type 0 where
   e-i : # (o .i) ≈ # (a .c0) ⊕ neg (# (a .c7))
   e-j : # (o .j) ≈ neg (# (a .c0))
   e0 : lit (o .n0) ≈ # (a .c7) ⊕ # (a .c1) ⊕ neg (# (a .c0) ⊕ # (a .c0))
@@ -38,19 +37,13 @@ record Outlined (a : Octagon) (o : Outline) : Type 0 where
   e6 : lit (o .n6) ≈ # (a .c5) ⊕ # (a .c7) ⊕ neg (# (a .c6) ⊕ # (a .c6))
   e7 : lit (o .n7) ≈ # (a .c6) ⊕ # (a .c0) ⊕ neg (# (a .c7))
 
--- an integer of nought or more is a natural number
-natural : (z : ℤ) (d : Diff) → # z ≈ d → lit 0 ≼ d → lit (natAbs z) ≈ d
-unfolding up dn
-natural (pos n) d e h = e
-natural (negsuc n) d e h = absurd (omega arith)
-
 even : (b o a : ℤ) → # o ⊕ # o ≼ # b ⊕ # a → lit (natAbs (even-side b o a)) ≈ # b ⊕ # a ⊕ neg (# o ⊕ # o)
-even b o a h = natural (even-side b o a) (# b ⊕ # a ⊕ neg (# o ⊕ # o)) (even-is b o a) (omega arith)
+even b o a h = omega (arith, even-is b o a, natural (even-side b o a) (omega (arith, even-is b o a)))
 
 odd : (b o a : ℤ) → # o ≼ # b ⊕ # a → lit (natAbs (odd-side b o a)) ≈ # b ⊕ # a ⊕ neg (# o)
-odd b o a h = natural (odd-side b o a) (# b ⊕ # a ⊕ neg (# o)) (odd-is b o a) (omega arith)
+odd b o a h = omega (arith, odd-is b o a, natural (odd-side b o a) (omega (arith, odd-is b o a)))
 
-outline-facts : (a : Octagon) → Normal a → Outlined a (outline-of a)
+outline-facts : (a : Octagon) → Normal a → SidesOf a (outline-of a)
 unfolding outline-of sides
 outline-facts a n = record {
   e-i = omega (arith, diff-parts (a .c0) (a .c7));
@@ -72,7 +65,7 @@ equal-outlines : {p o : Outline} → p .i ≡ o .i → p .j ≡ o .j → p .n0 �
 equal-outlines ei ej e0 e1 e2 e3 e4 e5 e6 e7 k =
     record { i = ei k; j = ej k; n0 = e0 k; n1 = e1 k; n2 = e2 k; n3 = e3 k; n4 = e4 k; n5 = e5 k; n6 = e6 k; n7 = e7 k }
 
-same-outline : (a : Octagon) (o p : Outline) → Closes o → Drawn o a → Outlined a p → p ≡ o
+same-outline : (a : Octagon) (o p : Outline) → Closes o → Drawn o a → SidesOf a p → p ≡ o
 same-outline a o p k d f =
     equal-outlines
     (parts-eq (p .i) (o .i) (omega arith))
@@ -105,10 +98,10 @@ octagon-outline o a = go (tracing o)
 
 -- ---- from an octagon to its outline and back
 
-closed : (a : Octagon) (o : Outline) → Outlined a o → Closes o
+closed : (a : Octagon) (o : Outline) → SidesOf a o → Closes o
 closed a o f = omega arith
 
-same-octagon : (a d : Octagon) (o : Outline) → Outlined a o → Drawn o d → d ≡ a
+same-octagon : (a d : Octagon) (o : Outline) → SidesOf a o → Drawn o d → d ≡ a
 same-octagon a d o f w =
     equal
     (parts-eq (d .c0) (a .c0) (omega arith))
@@ -120,7 +113,7 @@ same-octagon a d o f w =
     (parts-eq (d .c6) (a .c6) (omega arith))
     (parts-eq (d .c7) (a .c7) (omega arith))
 
-back : (a : Octagon) (o : Outline) → Outlined a o → drawn o ≡ a
+back : (a : Octagon) (o : Outline) → SidesOf a o → drawn o ≡ a
 back a o f = same-octagon a (drawn o) o f (closed-drawn o (closed a o f))
 
 traced-when : (o : Outline) (a : Octagon) → Closes o → drawn o ≡ a → Near a → traced o ≡ accepted a
@@ -133,22 +126,12 @@ traced-back a n m = let f = outline-facts a n in traced-when (outline-of a) a (c
 -- the outline of any bounds has their normal form as its octagon
 pub outline-octagon : (c : Octagon) (o : Outline) → outlined c ≡ accepted o → (a : Octagon) × (normalised c ≡ accepted a) × (traced o ≡ accepted a)
 unfolding outlined
-outline-octagon c o = go (normalising c) refl
-  where
-    go : {t : Outcome Octagon} → Normalising c t → normalised c ≡ t → then t (λ a. accepted (outline-of a)) ≡ accepted o →
-        (a : Octagon) × (normalised c ≡ accepted a) × (traced o ≡ accepted a)
-    go (is-normal a e n m s) p q = (a, p, rw (← accepted-same q) (traced-back a n m))
-    go (is-empty h) p q = absurd (accepted-not-refused (sym q))
-    go (is-off n h) p q = absurd (accepted-not-refused (sym q))
+outline-octagon c o q =
+    let m = map-accepted (normalised c) outline-of o q in
+    let a = m .0 in
+    (a, m .1, ap traced (sym (m .2)) ∙ traced-back a (accepted-normal c a (m .1)) (accepted-near c a (m .1)))
 
 -- "The way back takes eight bounds and has Normalise's refusals."
 pub outlined-refusals : (c : Octagon) (k : ℕ) → (outlined c ≡ refused k) ↔ (normalised c ≡ refused k)
 unfolding outlined
-outlined-refusals c k = (to (normalised c), from (normalised c))
-  where
-    to : (t : Outcome Octagon) → then t (λ a. accepted (outline-of a)) ≡ refused k → t ≡ refused k
-    to (accepted a) q = absurd (accepted-not-refused q)
-    to (refused n) q = cc
-
-    from : (t : Outcome Octagon) → t ≡ refused k → then t (λ a. accepted (outline-of a)) ≡ refused k
-    from t q = rw q
+outlined-refusals c k = map-refused (normalised c) outline-of k

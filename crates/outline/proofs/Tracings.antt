@@ -6,7 +6,7 @@ use native.Mathlib.Omega.{arith}
 use Rattle.integers.proofs.Tests.{cases, true-is-not-false}
 use Rattle.octagon.specs.declared.Octagon.{Octagon}
 use Rattle.octagon.specs.Outcome.{Outcome, accepted, refused, off-map}
-use Rattle.octagon.specs.Cells.{_⊆_, _≐_, Some, In, OnMap, Normalised}
+use Rattle.octagon.specs.Cells.{_⊆_, In, OnMap, LeavesMap}
 use Rattle.octagon.specs.NormalForm.{is-on-map, placed}
 use Rattle.octagon.proofs.Outcomes.{accepted-same, refused-same, accepted-not-refused}
 use Rattle.octagon.proofs.Within.{Normal, Near}
@@ -16,19 +16,16 @@ use Rattle.outline.specs.declared.Outline.{Outline}
 use Rattle.outline.specs.Closing.{Closes, closes}
 use Rattle.outline.specs.Walk.{InsideWalk}
 use Rattle.outline.specs.Tracing.{not-closed, drawn, traced}
+use Rattle.outline.specs.Meaning.{OctagonOf}
 use Rattle.outline.proofs.Closed.{test-closes, closes-test}
 use Rattle.outline.proofs.Drawn.{closed-normal}
 use Rattle.outline.proofs.Inside.{inside-walk}
-
--- some cell inside the walk is off the map
-abbrev pub Leaves : Outline → Type 0
-Leaves o = Some (λ x y. InsideWalk o x y × ¬ (OnMap x y))
 
 -- each answer, with what it says of the outline
 pub data Tracing (o : Outline) : Outcome Octagon → Type 0 where
   is-octagon : (a : Octagon) → a ≡ drawn o → Closes o → Normal a → Near a → Tracing o (accepted a)
   is-open : ¬ (Closes o) → Tracing o (refused not-closed)
-  is-off : Closes o → Leaves o → Tracing o (refused off-map)
+  is-off : Closes o → LeavesMap (InsideWalk o) → Tracing o (refused off-map)
 
 pub tracing : (o : Outline) → Tracing o (traced o)
 unfolding traced placed
@@ -39,27 +36,20 @@ tracing o =
     (λ m. rw (h, m) (is-off (test-closes o h) (leaves (far-cell (drawn o) (closed-normal o (test-closes o h)) m)))))
     (λ h. rw h (is-open (λ k. true-is-not-false (sym (closes-test o k) ∙ h))))
   where
-    leaves : Some (λ x y. In (drawn o) x y × ¬ (OnMap x y)) → Leaves o
+    leaves : LeavesMap (In (drawn o)) → LeavesMap (InsideWalk o)
     leaves f = record { x = f .x; y = f .y; cell = (inside-walk o (f .x) (f .y) .0 (f .cell .0), f .cell .1) }
 
--- what an accepted answer a for the outline o says
-pub record Accepted (o : Outline) (a : Octagon) : Type 0 where
-  pub same-cells : In a ≐ InsideWalk o
-  pub is-normalised : Normalised a
-  pub on-the-map : In a ⊆ OnMap
-  pub closed : Closes o
-
 -- accepted: exactly the cells inside the walk, each bound reached, every cell on the map
-pub accepted-means : (o : Outline) (a : Octagon) → traced o ≡ accepted a → Accepted o a
+pub accepted-means : (o : Outline) (a : Octagon) → traced o ≡ accepted a → OctagonOf o a
 accepted-means o a = go (tracing o)
   where
-    go : {t : Outcome Octagon} → Tracing o t → t ≡ accepted a → Accepted o a
+    go : {t : Outcome Octagon} → Tracing o t → t ≡ accepted a → OctagonOf o a
     go (is-octagon b e k n m) q =
         rw (← accepted-same q) (record { same-cells = rw e (inside-walk o); is-normalised = normal-normalised b n; on-the-map = near-cells b m; closed = k })
     go (is-open h) q = absurd (accepted-not-refused (sym q))
     go (is-off k h) q = absurd (accepted-not-refused (sym q))
 
--- an accepted answer is the bounds that the corners reach
+-- an accepted answer is the bounds that the vertices reach
 pub accepted-drawn : (o : Outline) (a : Octagon) → traced o ≡ accepted a → a ≡ drawn o
 accepted-drawn o a = go (tracing o)
   where
@@ -92,15 +82,15 @@ refused-not-closed o = (to (tracing o), from (tracing o) refl)
     from (is-off k h) q f = absurd (f k)
 
 -- "2 as above": exactly where it closes and some cell lies off the map
-pub refused-off-map : (o : Outline) → (traced o ≡ refused off-map) ↔ (Closes o × Leaves o)
+pub refused-off-map : (o : Outline) → (traced o ≡ refused off-map) ↔ (Closes o × LeavesMap (InsideWalk o))
 refused-off-map o = (to (tracing o), from (tracing o) refl)
   where
-    to : {t : Outcome Octagon} → Tracing o t → t ≡ refused off-map → Closes o × Leaves o
+    to : {t : Outcome Octagon} → Tracing o t → t ≡ refused off-map → Closes o × LeavesMap (InsideWalk o)
     to (is-octagon b e k n m) q = absurd (accepted-not-refused q)
     to (is-open h) q = absurd (let z = refused-same q in omega arith)
     to (is-off k h) q = (k, h)
 
-    from : {t : Outcome Octagon} → Tracing o t → traced o ≡ t → Closes o × Leaves o → traced o ≡ refused off-map
+    from : {t : Outcome Octagon} → Tracing o t → traced o ≡ t → Closes o × LeavesMap (InsideWalk o) → traced o ≡ refused off-map
     from (is-octagon b e k n m) q f =
         let s = f .1 in
         absurd (s .cell .1 (near-cells b m (s .x) (s .y) (rw e (inside-walk o (s .x) (s .y) .1 (s .cell .0)))))

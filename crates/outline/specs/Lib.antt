@@ -1,6 +1,9 @@
--- What the contracts on outlines cite: closing, the walk, the octagon of an outline and the outline of an octagon, places in metres.
+-- What contracts and theorems on outlines cite: closing, the tables of steps and pieces, the walk, the octagon of an outline and the
+-- outline of an octagon, places in metres, and what the answers mean.
 pub mod Closing
+pub mod Tables
 pub mod Walk
 pub mod Tracing
 pub mod Outlining
 pub mod Places
+pub mod Meaning

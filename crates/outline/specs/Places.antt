@@ -34,24 +34,24 @@ quarter z = over z 4
 abbrev pub place-of : ℤ → ℤ → Place
 place-of x y = record { east = quarter x; north = quarter y }
 
--- the refusal number of a corner above 7
+-- the refusal number of a vertex (document 01's corner) above 7
 abbrev pub no-vertex : ℕ
 no-vertex = 7
 
--- corner k of an outline in metres
-unfoldable pub corner-place : Outline → ℕ → Outcome Place
-corner-place o k = cond (ltb 7 k) (refused no-vertex) (accepted (place-of (vertex o k .x) (vertex o k .y)))
+-- vertex k of an outline in metres
+unfoldable pub place-of-vertex : Outline → ℕ → Outcome Place
+place-of-vertex o k = cond (ltb 7 k) (refused no-vertex) (accepted (place-of (vertex o k .x) (vertex o k .y)))
 
 -- what `vertex_place` answers
 unfoldable pub located : Octagon → ℕ → Outcome Place
-located c k = then (outlined c) (λ o. corner-place o k)
+located c k = then (outlined c) (λ o. place-of-vertex o k)
 
 -- document 01's number and values for each case of `Located`
-abbrev pub outcome : Located → Outcome Place
-outcome (At p) = accepted p
-outcome (Refused n) = refused n
+abbrev pub place-outcome : Located → Outcome Place
+place-outcome (At p) = accepted p
+place-outcome (Refused n) = refused n
 
 -- a cell whose coordinates fit 32 bits
-pub record Fitting (v : Cell) : Type 0 where
+pub record HeldCell (v : Cell) : Type 0 where
   pub fits-x : SFits w32 (v .x)
   pub fits-y : SFits w32 (v .y)

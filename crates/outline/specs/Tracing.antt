@@ -7,7 +7,6 @@ use Rattle.octagon.specs.Outcome.{Outcome, refused}
 use Rattle.octagon.specs.NormalForm.{placed}
 use Rattle.outline.specs.declared.Outline.{Outline}
 use Rattle.outline.specs.declared.walk.Cell.{Cell}
-use Rattle.outline.specs.declared.drawing.Bounds.{Bounds}
 use Rattle.outline.specs.Closing.{closes}
 use Rattle.outline.specs.Walk.{vertex}
 
@@ -15,7 +14,7 @@ use Rattle.outline.specs.Walk.{vertex}
 abbrev pub not-closed : ℕ
 not-closed = 3
 
--- the bounds that four corners reach: bounds k-1 and k meet in corner k
+-- the bounds that four vertices reach: bounds k-1 and k meet in vertex k
 unfoldable pub bounds-at : Cell → Cell → Cell → Cell → Octagon
 bounds-at v1 v3 v5 v7 = record {
   c0 = negℤ (v1 .y);
@@ -35,7 +34,3 @@ drawn o = bounds-at (vertex o 1) (vertex o 3) (vertex o 5) (vertex o 7)
 -- what `to_octagon` answers
 unfoldable pub traced : Outline → Outcome Octagon
 traced o = cond (closes o) (placed (drawn o)) (refused not-closed)
-
--- eight bounds of 64 bits as an octagon
-abbrev pub octagon-of : Bounds → Octagon
-octagon-of b = record { c0 = b .c0; c1 = b .c1; c2 = b .c2; c3 = b .c3; c4 = b .c4; c5 = b .c5; c6 = b .c6; c7 = b .c7 }

@@ -15,13 +15,6 @@ fn sum3(a: u32, b: u32, c: u32) -> u64
 pub fn closes(o: Outline) -> bool
     ensures { λ r. ⌜ r ≡ closing.closes o ⌝ }
 {
-    let n0 = o.n0;
-    let n1 = o.n1;
-    let n2 = o.n2;
-    let n3 = o.n3;
-    let n4 = o.n4;
-    let n5 = o.n5;
-    let n6 = o.n6;
-    let n7 = o.n7;
-    (sum3(n0, n1, n7) == sum3(n3, n4, n5)) & (sum3(n1, n2, n3) == sum3(n5, n6, n7))
+    (sum3(o.n0, o.n1, o.n7) == sum3(o.n3, o.n4, o.n5))
+        & (sum3(o.n1, o.n2, o.n3) == sum3(o.n5, o.n6, o.n7))
 }

@@ -1,21 +1,23 @@
 // Outlines, the field's boundary code (B-code), to octagons and back, and the vertices of an octagon in metres.
 //
-// specs/Walk.antt has the walk round an outline and the cells inside it; specs/Tracing.antt, Outlining.antt and Places.antt what the three
-// calls answer; proofs/Tracings.antt, Corners.antt, RoundTrips.antt and Metres.antt the theorems between them.
+// tables.rt and specs/Tables.antt have the step vectors and the pieces. specs/Walk.antt has the walk round an outline and the cells inside
+// it; specs/Tracing.antt, Outlining.antt and Places.antt what the three calls answer, specs/Meaning.antt what that means;
+// proofs/Tracings.antt, OneCell.antt, Vertices.antt, RoundTrips.antt and Metres.antt the theorems between them.
 ghost use mathlib.Core.Path.{_≡_};
 ghost use Rattle.octagon.specs.Answers.{outcome as «octagon-outcome»};
 ghost use Rattle.outline.specs.Tracing.{traced};
 ghost use Rattle.outline.specs.Outlining.{outlined, outcome};
-ghost use Rattle.outline.specs.Places.{located, outcome as «place-outcome»};
+ghost use Rattle.outline.specs.Places.{located, «place-outcome»};
 use octagon::Answer;
 use octagon::Octagon;
 use place::Place;
 
 mod closing;
-mod corner;
 mod drawing;
+mod locating;
 pub mod place;
 mod sides;
+pub mod tables;
 mod walk;
 
 // Document 01's outline: the start, its lowest corner and of the lowest the leftmost, and eight side lengths, counter-clockwise.
@@ -33,7 +35,7 @@ pub struct Outline {
 }
 
 // An outline, or the number of the refusal.
-pub enum Traced {
+pub enum Outlined {
     Outline(Outline),
     Refused(u32),
 }
@@ -43,18 +45,6 @@ pub enum Located {
     Place(Place),
     Refused(u32),
 }
-
-// The steps along the sides, each east and north: document 01's d0 to d7.
-pub const STEPS: [[i32; 2]; 8] = [
-    [1, 0],
-    [1, 1],
-    [0, 1],
-    [-1, 1],
-    [-1, 0],
-    [-1, -1],
-    [0, -1],
-    [1, -1],
-];
 
 // The refusal numbers of document 01 that this crate adds.
 pub const NOT_CLOSED: u32 = 3;
@@ -66,18 +56,18 @@ pub fn to_octagon(o: Outline) -> Answer
     ensures { λ r. ⌜ «octagon-outcome» r ≡ traced o ⌝ }
 {
     if closing::closes(o) {
-        return drawing::placed(drawing::draw(o));
+        return drawing::draw(o);
     }
     Answer::Refused(NOT_CLOSED)
 }
 
 // The outline of any eight bounds: that of their normal form. Refuses what `normalise` refuses.
-pub fn to_outline(o: Octagon) -> Traced
+pub fn to_outline(o: Octagon) -> Outlined
     ensures { λ r. ⌜ outcome r ≡ outlined o ⌝ }
 {
     match octagon::normalise(o) {
-        Answer::Octagon(a) => Traced::Outline(sides::outline_of(a)),
-        Answer::Refused(n) => Traced::Refused(n),
+        Answer::Octagon(a) => Outlined::Outline(sides::outline_of(a)),
+        Answer::Refused(n) => Outlined::Refused(n),
     }
 }
 
@@ -86,7 +76,7 @@ pub fn vertex_place(o: Octagon, k: u32) -> Located
     ensures { λ r. ⌜ «place-outcome» r ≡ located o k ⌝ }
 {
     match to_outline(o) {
-        Traced::Outline(t) => corner::corner_place(t, k),
-        Traced::Refused(n) => Located::Refused(n),
+        Outlined::Outline(t) => locating::place_of_vertex(t, k),
+        Outlined::Refused(n) => Located::Refused(n),
     }
 }

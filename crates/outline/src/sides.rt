@@ -9,7 +9,7 @@ use octagon::Octagon;
 
 // The length of an even side, from its bound and the bounds beside it.
 fn even_side(before: i32, own: i32, after: i32) -> u32
-    requires { ⌜ outlining.Length (form.even-side before own after) ⌝ }
+    requires { ⌜ outlining.SideLength (form.even-side before own after) ⌝ }
     ensures { λ r. ⌜ r ≡ natAbs (form.even-side before own after) ⌝ }
 {
     (sum(before, after) - sum(own, own)) as u32
@@ -17,7 +17,7 @@ fn even_side(before: i32, own: i32, after: i32) -> u32
 
 // The length of an odd side.
 fn odd_side(before: i32, own: i32, after: i32) -> u32
-    requires { ⌜ outlining.Length (form.odd-side before own after) ⌝ }
+    requires { ⌜ outlining.SideLength (form.odd-side before own after) ⌝ }
     ensures { λ r. ⌜ r ≡ natAbs (form.odd-side before own after) ⌝ }
 {
     (sum(before, after) - (own as i64)) as u32

@@ -1,4 +1,4 @@
-// The walk round an outline, corner by corner, in 64 bits: wide enough for any start and any lengths.
+// The walk round an outline, vertex by vertex, in 64 bits: wide enough for any start and any lengths.
 ghost use mathlib.Core.Path.{_≡_};
 ghost use Prim.Native.Nat.{_≤_, _<_};
 ghost use lib.IntN.{pos, _+ℤ_, _*ℤ_};
@@ -6,7 +6,7 @@ ghost use mir.Syntax.{w64};
 ghost use mir.Val.{SFits};
 ghost use Rattle.outline.specs.Walk as walk;
 use crate::Outline;
-use crate::STEPS;
+use crate::tables::STEPS;
 
 // Document 01's cell.
 pub struct Cell {
@@ -55,7 +55,7 @@ fn moved(a: i64, d: i32, n: u32) -> i64
     a + (d as i64) * (n as i64)
 }
 
-// Corner k of the walk.
+// Vertex k of the walk: document 01's corner k. Vertex 8 is where the walk ends.
 pub fn vertex(o: Outline, k: usize) -> Cell
     requires { ⌜ k ≤ 8 ⌝ }
     ensures { λ r. ⌜ r ≡ walk.vertex o k ⌝ }

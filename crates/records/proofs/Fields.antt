@@ -5,16 +5,16 @@ use Prim.Native.Nat.{ℕ, zero, suc, _-_, _^_, _≤_, _<_}
 use native.Mathlib.Omega.{arith}
 use lib.ListN.{length, take, drop, getD, length-append, length-drop}
 use lib.Seq.{take-at, drop-at, take-add, take-take}
-use Rattle.records.specs.Numbers.{number, bytes, total, packed, unpacked}
+use Rattle.records.specs.Numbers.{AreBytes, number, bytes, total-width, packed, unpacked}
 use Rattle.records.proofs.Parts.{between-part}
-use Rattle.records.proofs.Numbers.{Bytes, drop-bytes, number-take, length-bytes, number-bytes, bytes-number}
+use Rattle.records.proofs.Numbers.{drop-bytes, number-take, length-bytes, number-bytes, bytes-number}
 
 -- as many numbers as fields, each within its width
 pub data Fit : List ℕ → List ℕ → Type 0 where
   none : Fit [] []
   more : {w v : ℕ} {ws vs : List ℕ} → v < 256 ^ w → Fit ws vs → Fit (w ∷ ws) (v ∷ vs)
 
-pub length-packed : (ws vs : List ℕ) → length ws ≡ length vs → length (packed ws vs) ≡ total ws
+pub length-packed : (ws vs : List ℕ) → length ws ≡ length vs → length (packed ws vs) ≡ total-width ws
 length-packed [] vs e = refl
 length-packed (w ∷ ws) [] e = absurd (omega arith)
 length-packed (w ∷ ws) (v ∷ vs) e = length-append (bytes w v) (packed ws vs) ∙ omega (arith, length-bytes w v, length-packed ws vs (omega arith))
@@ -30,19 +30,19 @@ pub unpacked-all : {ws vs : List ℕ} → Fit ws vs → unpacked ws (packed ws v
 unpacked-all {ws} {vs} f = rw (append-nil (packed ws vs)) at (unpacked-packed [] f)
 
 -- and bytes that were read are written again
-pub packed-unpacked : (ws s : List ℕ) → Bytes s → total ws ≤ length s → packed ws (unpacked ws s) ≡ take (total ws) s
+pub packed-unpacked : (ws s : List ℕ) → AreBytes s → total-width ws ≤ length s → packed ws (unpacked ws s) ≡ take (total-width ws) s
 packed-unpacked [] s h l = refl
 packed-unpacked (w ∷ ws) s h l =
     rw (bytes-number w s h (omega arith), packed-unpacked ws (drop w s) (drop-bytes w s h) (rw length-drop (omega arith)), take-add)
 
 -- what is read lies within the fields
-pub unpacked-take : (ws s : List ℕ) (L : ℕ) → total ws ≤ L → unpacked ws (take L s) ≡ unpacked ws s
+pub unpacked-take : (ws s : List ℕ) (L : ℕ) → total-width ws ≤ L → unpacked ws (take L s) ≡ unpacked ws s
 unpacked-take [] s L h = refl
 unpacked-take (w ∷ ws) s L h =
     rw (take-take w L s (omega arith), between-part w L s) (ap (λ (x : List ℕ). number (take w s) ∷ x) (unpacked-take ws (drop w s) (L - w) (omega arith)))
 
 -- numbers that were read from bytes fit their fields
-pub unpacked-fit : (ws s : List ℕ) → Bytes s → Fit ws (unpacked ws s)
+pub unpacked-fit : (ws s : List ℕ) → AreBytes s → Fit ws (unpacked ws s)
 unpacked-fit [] s h = none
 unpacked-fit (w ∷ ws) s h = more (number-take w s h) (unpacked-fit ws (drop w s) (drop-bytes w s h))
 

@@ -1,11 +1,11 @@
--- Laws of bytes that are moved up to make room. Assumes nothing.
+-- Laws of bytes that are moved up to make room, and of what is put into it and after them. Assumes nothing.
 use mathlib.Core.Path.{_≡_, sym, ap, _∙_}
 use mathlib.Core.List.{List, _∷_, _++_, append-assoc, append-nil}
 use Prim.Native.Nat.{ℕ, suc, _+_, _≤_, _<_}
 use native.Mathlib.Omega.{arith}
 use lib.ListN.{length, take, drop, getD, set, length-append, length-take, take-append-drop, List·getD-append}
 use lib.Seq.{slice-empty, slice-cons, take-suc, set-at, getD-take, length-take-le, take-at, drop-at, take-append-le, take-take, drop-drop, length-slice}
-use Rattle.records.specs.Parts.{between, splice, shifted, opened}
+use Rattle.records.specs.Parts.{between, splice, shifted, put-in}
 
 -- nothing is moved yet
 pub shift-none : (s : List ℕ) (t g : ℕ) → s ≡ shifted s t t g
@@ -29,9 +29,9 @@ shift-one s t g i j e h k =
     rw (e₁, e₀) (set-at p x (r ++ q) v (j + g) (length-take-le (j + g) s (omega arith)) ∙ rw (slice-cons j t s 0 h (omega arith), append-assoc))
 
 -- the room is filled
-pub open-is : (s : List ℕ) (f t : ℕ) (p : List ℕ) → f ≤ t → t + length p ≤ length s → splice (shifted s f t (length p)) f p ≡ opened s f t p
-unfolding splice shifted opened
-open-is s f t p h k =
+pub put-in-is : (s : List ℕ) (f t : ℕ) (p : List ℕ) → f ≤ t → t + length p ≤ length s → splice (shifted s f t (length p)) f p ≡ put-in s f t p
+unfolding splice shifted put-in
+put-in-is s f t p h k =
     let g = length p in
     let a = take (f + g) s in
     let b = between s f t ++ drop (t + g) s in
@@ -40,10 +40,10 @@ open-is s f t p h k =
     rw (append-assoc a, e₁, drop-at a b (f + g) n) (simp append-assoc)
 
 -- and z put after what was moved
-pub close-is : (s : List ℕ) (f t : ℕ) (p z : List ℕ) → f ≤ t → t + length p + length z ≤ length s
-    → splice (opened s f t p) (t + length p) z ≡ take f s ++ (p ++ between s f t) ++ z ++ drop (t + length p + length z) s
-unfolding splice opened
-close-is s f t p z h k =
+pub put-after : (s : List ℕ) (f t : ℕ) (p z : List ℕ) → f ≤ t → t + length p + length z ≤ length s
+    → splice (put-in s f t p) (t + length p) z ≡ take f s ++ (p ++ between s f t) ++ z ++ drop (t + length p + length z) s
+unfolding splice put-in
+put-after s f t p z h k =
     let m = t + length p in
     let a = take f s ++ (p ++ between s f t) in
     let q = drop m s in

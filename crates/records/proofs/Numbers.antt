@@ -13,7 +13,7 @@ use lib.Signed.{mag}
 use borrow.Author.Tests.{lt-ltb, le-ltb}
 use Rattle.integers.proofs.Tests.{cases}
 use Rattle.integers.proofs.Parts.{up, dn, diff-parts, parts-eq}
-use Rattle.records.specs.Numbers.{number, bytes, signed, twos}
+use Rattle.records.specs.Numbers.{AreBytes, number, bytes, signed, twos}
 use Rattle.records.specs.Parts.{part}
 
 -- ---- reading
@@ -25,20 +25,16 @@ part-suc s at n h = rw (add-one at, drop-cons s at 0 h)
 pub number-suc : (s : List ℕ) (at n : ℕ) → at < length s → number (part s at (suc n)) ≡ getD s at 0 + 256 * number (part s (at + 1) n)
 number-suc s at n h = ap number (part-suc s at n h)
 
--- each element is a byte
-abbrev pub Bytes : List ℕ → Type 0
-Bytes s = (i : ℕ) → getD s i 0 < 256
-
-tail-bytes : (b : ℕ) (s : List ℕ) → Bytes (b ∷ s) → Bytes s
+tail-bytes : (b : ℕ) (s : List ℕ) → AreBytes (b ∷ s) → AreBytes s
 tail-bytes b s h i = h (suc i)
 
-pub drop-bytes : (n : ℕ) (s : List ℕ) → Bytes s → Bytes (drop n s)
+pub drop-bytes : (n : ℕ) (s : List ℕ) → AreBytes s → AreBytes (drop n s)
 drop-bytes zero s h = h
 drop-bytes (suc n) [] h = h
 drop-bytes (suc n) (b ∷ s) h = drop-bytes n s (tail-bytes b s h)
 
 -- w bytes hold a number below 256 ^ w
-pub number-take : (w : ℕ) (s : List ℕ) → Bytes s → number (take w s) < 256 ^ w
+pub number-take : (w : ℕ) (s : List ℕ) → AreBytes s → number (take w s) < 256 ^ w
 number-take zero s h = omega arith
 number-take (suc w) [] h = one-le-pow (suc w) 256 (omega arith)
 number-take (suc w) (b ∷ s) h = rw pow-suc (omega (arith, h 0, number-take w s (tail-bytes b s h)))
@@ -53,7 +49,7 @@ pub number-bytes : (w v : ℕ) → v < 256 ^ w → number (bytes w v) ≡ v
 number-bytes zero v h = omega arith
 number-bytes (suc w) v h = omega (arith, number-bytes w (v / 256) (omega (arith, pow-suc 256 w)))
 
-pub bytes-number : (w : ℕ) (s : List ℕ) → Bytes s → w ≤ length s → bytes w (number (take w s)) ≡ take w s
+pub bytes-number : (w : ℕ) (s : List ℕ) → AreBytes s → w ≤ length s → bytes w (number (take w s)) ≡ take w s
 bytes-number zero s h l = refl
 bytes-number (suc w) [] h l = absurd (omega arith)
 bytes-number (suc w) (b ∷ s) h l =

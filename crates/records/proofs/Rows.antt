@@ -1,4 +1,5 @@
--- Records as bytes, over the record length L: what is read from a list of bytes, and what is written. Assumes nothing.
+-- Records as bytes, over the record length L: what is read from a list of bytes, what is written, and one record more. Assumes
+-- nothing.
 use mathlib.Core.Path.{_≡_, refl, sym, ap, _∙_}
 use mathlib.Core.Bool.{Bool, true, false, cond}
 use mathlib.Core.List.{List, [], _∷_, _++_, append-assoc, append-nil}
@@ -11,7 +12,7 @@ use lib.Dec.{ltb}
 use Rattle.records.specs.Numbers.{number}
 use Rattle.records.specs.Parts.{part, between}
 use Rattle.records.proofs.Parts.{between-part}
-use Rattle.records.specs.Rows.{records, joined, key-width, key, place, placed}
+use Rattle.records.specs.Rows.{records, joined, key-width, key, rank, put-in-order}
 
 -- ---- multiples of the record length
 
@@ -72,25 +73,25 @@ records-joined {L} h z at e (more {r = r} {rs = rs} l m) =
 
 -- ---- one record more
 
-pub length-placed : (r : List ℕ) (rs : List (List ℕ)) → length (placed r rs) ≡ suc (length rs)
-length-placed r [] = refl
-length-placed r (a ∷ rs) = pick (ltb (key a) (key r)) a r (placed r rs) rs (length-placed r rs)
+pub length-put-in-order : (r : List ℕ) (rs : List (List ℕ)) → length (put-in-order r rs) ≡ suc (length rs)
+length-put-in-order r [] = refl
+length-put-in-order r (a ∷ rs) = pick (ltb (key a) (key r)) a r (put-in-order r rs) rs (length-put-in-order r rs)
   where
     pick : (b : Bool) (a r : List ℕ) (is rs : List (List ℕ)) → length is ≡ suc (length rs) → length (cond b (a ∷ is) (r ∷ a ∷ rs)) ≡ suc (suc (length rs))
     pick true a r is rs h = ap suc h
     pick false a r is rs h = refl
 
-pub each-placed : {L : ℕ} {rs : List (List ℕ)} (r : List ℕ) → length r ≡ L → Each L rs → Each L (placed r rs)
-each-placed r e none = more e none
-each-placed {L} r e (more {r = a} {rs = rs} l m) = pick (ltb (key a) (key r)) (placed r rs) l m (each-placed r e m)
+pub each-put-in-order : {L : ℕ} {rs : List (List ℕ)} (r : List ℕ) → length r ≡ L → Each L rs → Each L (put-in-order r rs)
+each-put-in-order r e none = more e none
+each-put-in-order {L} r e (more {r = a} {rs = rs} l m) = pick (ltb (key a) (key r)) (put-in-order r rs) l m (each-put-in-order r e m)
   where
     pick : (b : Bool) (is : List (List ℕ)) → length a ≡ L → Each L rs → Each L is → Each L (cond b (a ∷ is) (r ∷ a ∷ rs))
     pick true is l m i = more l i
     pick false is l m i = more e (more l m)
 
-pub place-le : (v : ℕ) (rs : List (List ℕ)) → place v rs ≤ length rs
-place-le v [] = zero-le
-place-le v (a ∷ rs) = pick (ltb (key a) v) (place v rs) (length rs) (place-le v rs)
+pub rank-le : (v : ℕ) (rs : List (List ℕ)) → rank v rs ≤ length rs
+rank-le v [] = zero-le
+rank-le v (a ∷ rs) = pick (ltb (key a) v) (rank v rs) (length rs) (rank-le v rs)
   where
     pick : (b : Bool) (m n : ℕ) → m ≤ n → cond b (suc m) 0 ≤ suc n
     pick true m n h = omega arith
@@ -100,10 +101,10 @@ place-le v (a ∷ rs) = pick (ltb (key a) v) (place v rs) (length rs) (place-le 
 abbrev parted : ℕ → List ℕ → ℕ → ℕ → List ℕ → ℕ → List ℕ
 parted L s at n r k = part s at (L * k) ++ (r ++ part s (at + L * k) (L * (n - k)))
 
-joined-placed : (L : ℕ) (s : List ℕ) (at n : ℕ) (r : List ℕ) → joined (placed r (records L s at n)) ≡ parted L s at n r (place (key r) (records L s at n))
-joined-placed L s at zero r = rw (mul-zero, append-nil)
-joined-placed L s at (suc n) r =
-    pick (ltb (key (part s at L)) (key r)) (place (key r) (records L s (at + L) n)) (placed r (records L s (at + L) n)) (joined-placed L s (at + L) n r)
+joined-put-in-order : (L : ℕ) (s : List ℕ) (at n : ℕ) (r : List ℕ) → joined (put-in-order r (records L s at n)) ≡ parted L s at n r (rank (key r) (records L s at n))
+joined-put-in-order L s at zero r = rw (mul-zero, append-nil)
+joined-put-in-order L s at (suc n) r =
+    pick (ltb (key (part s at L)) (key r)) (rank (key r) (records L s (at + L) n)) (put-in-order r (records L s (at + L) n)) (joined-put-in-order L s (at + L) n r)
   where
     pick : (b : Bool) (k : ℕ) (js : List (List ℕ)) → joined js ≡ parted L s (at + L) n r k
         → joined (cond b (part s at L ∷ js) (r ∷ records L s at (suc n))) ≡ parted L s at (suc n) r (cond b (suc k) 0)
@@ -114,11 +115,11 @@ joined-placed L s at (suc n) r =
     pick false k js h = rw (mul-zero, add-zero, sub-zero) (ap (λ (x : List ℕ). r ++ x) (joined-records L s at (suc n)))
 
 -- the bytes up to the end of n records, with r put in at its place
-pub placed-bytes : (L : ℕ) (s : List ℕ) (f n : ℕ) (r : List ℕ)
-    → let k = f + L * place (key r) (records L s f n) in take k s ++ (r ++ between s k (f + L * n)) ≡ take f s ++ joined (placed r (records L s f n))
-placed-bytes L s f n r =
-    let k = place (key r) (records L s f n) in
-    let h : k ≤ n = omega (arith, place-le (key r) (records L s f n), length-records L s f n) in
+pub bytes-put-in-order : (L : ℕ) (s : List ℕ) (f n : ℕ) (r : List ℕ)
+    → let k = f + L * rank (key r) (records L s f n) in take k s ++ (r ++ between s k (f + L * n)) ≡ take f s ++ joined (put-in-order r (records L s f n))
+bytes-put-in-order L s f n r =
+    let k = rank (key r) (records L s f n) in
+    let h : k ≤ n = omega (arith, rank-le (key r) (records L s f n), length-records L s f n) in
     let e₀ : L * n ≡ L * k + L * (n - k) = rw (← mul-add) (ap (λ (x : ℕ). L * x) (omega arith)) in
     let e : f + L * n - (f + L * k) ≡ L * (n - k) = omega arith in
-    rw (between-part, e, take-add f (L * k) s, joined-placed L s f n r) (simp append-assoc)
+    rw (between-part, e, take-add f (L * k) s, joined-put-in-order L s f n r) (simp append-assoc)

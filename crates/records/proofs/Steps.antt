@@ -11,7 +11,7 @@ use lib.Seq.{drop-cons, drop-drop, take-suc-set, append-snoc}
 use lib.Dec.{leb}
 use borrow.Author.Tests.{leb-true}
 use Rattle.integers.proofs.Tests.{both-true}
-use Rattle.records.specs.Numbers.{number, bytes, total, narrow, packed, unpacked}
+use Rattle.records.specs.Numbers.{number, bytes, total-width, narrow, packed, unpacked}
 use Rattle.records.specs.Parts.{part, splice}
 use Rattle.records.proofs.Numbers.{number-suc, length-bytes}
 use Rattle.records.proofs.Fields.{length-packed}
@@ -24,14 +24,14 @@ pub leaves-room : (w i v : ℕ) → w ≤ 4 → 0 < i → v < 256 ^ (w - i) → 
 leaves-room w i v h k l = omega (arith, pow-le-pow-right {n = 256} (omega arith) {i = w - i} {j = 3} (omega arith))
 
 -- the number of the bytes from index i of w bytes, and that it fits them
-pub record Read (s : List ℕ) (at w i v : ℕ) : Type 0 where
+pub record NumberFrom (s : List ℕ) (at w i v : ℕ) : Type 0 where
   pub inside : i ≤ w
   pub value : v ≡ number (part s (at + i) (w - i))
   pub below : v < 256 ^ (w - i)
 
-pub read-more : (s : List ℕ) (at w i v b : ℕ) → at + w ≤ length s → 0 < i → Read s at w i v → b ≡ getD s (at + (i - 1)) 0 → b < 256 → Read s at w (i - 1) (v * 256 + b)
-read-more s at w zero v b h k r e l = absurd (omega arith)
-read-more s at w (suc j) v b h k r e l =
+pub number-from-more : (s : List ℕ) (at w i v b : ℕ) → at + w ≤ length s → 0 < i → NumberFrom s at w i v → b ≡ getD s (at + (i - 1)) 0 → b < 256 → NumberFrom s at w (i - 1) (v * 256 + b)
+number-from-more s at w zero v b h k r e l = absurd (omega arith)
+number-from-more s at w (suc j) v b h k r e l =
     let q : suc j - 1 ≡ j = omega arith in
     let n : w - j ≡ suc (w - suc j) = omega (arith, r .inside) in
     let a : at + suc j ≡ at + j + 1 = omega arith in
@@ -56,8 +56,8 @@ put-more s at (suc n) v h k =
 -- ---- fields, one after the other
 
 -- the first field that is left, and the others
-pub total-more : (ws : List ℕ) (k : ℕ) → k < length ws → total (drop k ws) ≡ getD ws k 0 + total (drop (k + 1) ws)
-total-more ws k h = rw (drop-cons ws k 0 h, add-one)
+pub total-width-more : (ws : List ℕ) (k : ℕ) → k < length ws → total-width (drop k ws) ≡ getD ws k 0 + total-width (drop (k + 1) ws)
+total-width-more ws k h = rw (drop-cons ws k 0 h, add-one)
 
 pub narrow-more : (ws : List ℕ) (k : ℕ) → k < length ws → narrow (drop k ws) ≡ true → (getD ws k 0 ≤ 4) × (narrow (drop (k + 1) ws) ≡ true)
 narrow-more ws k h n =
@@ -72,13 +72,13 @@ unpack-more s ws vs p k h l =
     (sym (append-snoc (take k vs) (number (part s p (getD ws k 0))) (unpacked (drop (suc k) ws) (drop (p + getD ws k 0) s))))
 
 -- the fields from the k-th on are still to be written from index p
-pub pack-more : (s ws vs : List ℕ) (p k : ℕ) → k < length ws → length vs ≡ length ws → p + total (drop k ws) ≤ length s
+pub pack-more : (s ws vs : List ℕ) (p k : ℕ) → k < length ws → length vs ≡ length ws → p + total-width (drop k ws) ≤ length s
     → splice (splice s p (bytes (getD ws k 0) (getD vs k 0))) (p + getD ws k 0) (packed (drop (k + 1) ws) (drop (k + 1) vs)) ≡ splice s p (packed (drop k ws) (drop k vs))
 pack-more s ws vs p k h e l =
     let w = getD ws k 0 in
     let a = bytes w (getD vs k 0) in
     let b = packed (drop (suc k) ws) (drop (suc k) vs) in
     let n : length a ≡ w = length-bytes w (getD vs k 0) in
-    let m : length b ≡ total (drop (suc k) ws) = length-packed (drop (suc k) ws) (drop (suc k) vs) (simp length-drop (omega arith)) in
-    let t : total (drop k ws) ≡ w + total (drop (suc k) ws) = rw (drop-cons ws k 0 h) in
+    let m : length b ≡ total-width (drop (suc k) ws) = length-packed (drop (suc k) ws) (drop (suc k) vs) (simp length-drop (omega arith)) in
+    let t : total-width (drop k ws) ≡ w + total-width (drop (suc k) ws) = rw (drop-cons ws k 0 h) in
     rw (drop-cons ws k 0 h, drop-cons vs k 0 (omega arith), add-one k) (ap (λ (x : ℕ). splice (splice s p a) (p + x) b) (sym n) ∙ splice-append s p a b (omega arith))

@@ -1,4 +1,5 @@
--- What the contracts of the crates above cite of bytes and of records in bytes.
+-- What the contracts and theorems of the crates above speak of: texts, numbers and records in bytes.
+pub mod Text
 pub mod Numbers
 pub mod Parts
 pub mod Rows

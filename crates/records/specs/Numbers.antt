@@ -1,11 +1,15 @@
--- Numbers in bytes, the lowest byte first (document 01: little-endian), signed ones in two's complement; and numbers in
+-- Lists of bytes, and numbers in bytes, the lowest byte first (document 01: little-endian), signed ones in two's complement; and numbers in
 -- fields of given widths, one after the other. Assumes nothing.
-use Prim.Native.Nat.{ℕ, zero, suc, _+_, _-_, _*_, _/_, _%_, _^_}
+use Prim.Native.Nat.{ℕ, zero, suc, _+_, _-_, _*_, _/_, _%_, _^_, _<_}
 use mathlib.Core.Bool.{Bool, true, cond, _&&_}
 use mathlib.Core.List.{List, [], _∷_, _++_}
-use lib.ListN.{take, drop}
+use lib.ListN.{take, drop, getD}
 use lib.Dec.{leb, ltb}
 use lib.IntN.{ℤ, pos, negsuc, _-ℤ_}
+
+-- each element is a byte
+abbrev pub AreBytes : List ℕ → Type 0
+AreBytes s = (i : ℕ) → getD s i 0 < 256
 
 -- the number that bytes are
 abbrev pub number : List ℕ → ℕ
@@ -26,9 +30,9 @@ twos w (pos n) = n
 twos w (negsuc n) = 256 ^ w - suc n
 
 -- fields of these widths, in bytes: how long they are together, the numbers in them, and the bytes of numbers
-abbrev pub total : List ℕ → ℕ
-total [] = 0
-total (w ∷ ws) = w + total ws
+abbrev pub total-width : List ℕ → ℕ
+total-width [] = 0
+total-width (w ∷ ws) = w + total-width ws
 
 -- no field is wider than a number of 32 bits
 abbrev pub narrow : List ℕ → Bool

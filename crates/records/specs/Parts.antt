@@ -20,5 +20,5 @@ unfoldable pub shifted : List ℕ → ℕ → ℕ → ℕ → List ℕ
 shifted s f t g = take (f + g) s ++ between s f t ++ drop (t + g) s
 
 -- s with p put in at index f: what stood from f up to t comes after it, over what followed
-unfoldable pub opened : List ℕ → ℕ → ℕ → List ℕ → List ℕ
-opened s f t p = take f s ++ p ++ between s f t ++ drop (t + length p) s
+unfoldable pub put-in : List ℕ → ℕ → ℕ → List ℕ → List ℕ
+put-in s f t p = take f s ++ p ++ between s f t ++ drop (t + length p) s

@@ -1,5 +1,5 @@
--- Records of one length L in a list of bytes, their plot numbers, and the records with one more. A record is the list of its
--- bytes. Assumes nothing.
+-- Records of one length L in a list of bytes, their plot numbers, their order by number, and the records with one more. A record is
+-- the list of its bytes. Assumes nothing.
 use Prim.Native.Nat.{ℕ, zero, suc, _+_, _<_}
 use mathlib.Core.Bool.{Bool, false, cond, _||_}
 use mathlib.Core.List.{List, [], _∷_, _++_}
@@ -27,9 +27,9 @@ abbrev pub key : List ℕ → ℕ
 key r = number (take key-width r)
 
 -- the numbers rise from above v, and P holds of each record
-pub data Rising (P : List ℕ → Type 0) : ℕ → List (List ℕ) → Type 0 where
-  none : {v : ℕ} → Rising P v []
-  more : {v : ℕ} {r : List ℕ} {rs : List (List ℕ)} → v < key r → P r → Rising P (key r) rs → Rising P v (r ∷ rs)
+pub data Ascending (P : List ℕ → Type 0) : ℕ → List (List ℕ) → Type 0 where
+  none : {v : ℕ} → Ascending P v []
+  more : {v : ℕ} {r : List ℕ} {rs : List (List ℕ)} → v < key r → P r → Ascending P (key r) rs → Ascending P v (r ∷ rs)
 
 -- some record has the number v
 abbrev pub present : ℕ → List (List ℕ) → Bool
@@ -37,11 +37,11 @@ present v [] = false
 present v (r ∷ rs) = eqb (key r) v || present v rs
 
 -- how many records stand before the first whose number is not below v
-abbrev pub place : ℕ → List (List ℕ) → ℕ
-place v [] = 0
-place v (r ∷ rs) = cond (ltb (key r) v) (suc (place v rs)) 0
+abbrev pub rank : ℕ → List (List ℕ) → ℕ
+rank v [] = 0
+rank v (r ∷ rs) = cond (ltb (key r) v) (suc (rank v rs)) 0
 
 -- the records with r put before the first whose number is not below its own
-abbrev pub placed : List ℕ → List (List ℕ) → List (List ℕ)
-placed r [] = r ∷ []
-placed r (a ∷ rs) = cond (ltb (key a) (key r)) (a ∷ placed r rs) (r ∷ a ∷ rs)
+abbrev pub put-in-order : List ℕ → List (List ℕ) → List (List ℕ)
+put-in-order r [] = r ∷ []
+put-in-order r (a ∷ rs) = cond (ltb (key a) (key r)) (a ∷ put-in-order r rs) (r ∷ a ∷ rs)

@@ -1,5 +1,5 @@
--- `decimal` is right: digits and nothing else, no leading zero, the number again when they are read, and no shorter digits for it.
--- Assumes nothing.
+-- `decimal` is right: digits and nothing else, no leading zero, the number again when they are read, and no shorter digits for it; and
+-- `signed-decimal` gives its number again. Assumes nothing.
 use mathlib.Core.Path.{_≡_, refl, sym, ap, _∙_}
 use mathlib.Core.List.{List, [], _∷_, _++_}
 use Prim.Native.Nat.{ℕ, zero, suc, _+_, _-_, _*_, _/_, _%_, _^_, _≤_, _<_}
@@ -10,7 +10,7 @@ use lib.IntN.{ℤ, pos, negsuc, negℤ}
 use lib.ListN.{length, getD, length-append, List·getD-append}
 use borrow.Author.Tests.{lt-ltb, le-ltb, ltb-true, ltb-false, ne-eqb}
 use Rattle.integers.proofs.Tests.{cases}
-use Rattle.report.specs.Decimal.{digit, digits, decimal, read, value, minus, signed, integer}
+use Rattle.report.specs.Decimal.{digit, digits, AllDigits, none, more, decimal, value-after, value, minus, signed-decimal, integer}
 
 -- ---- one digit, and one digit more
 
@@ -43,38 +43,34 @@ decimal-more (suc k) h =
 
 -- what holds of one digit, and of a number if of its digits but the last, holds of all
 by-digits : (P : ℕ → Type 0) → ((n : ℕ) → n < 10 → P n) → ((n : ℕ) → 10 ≤ n → P (n / 10) → P n) → (n : ℕ) → P n
-by-digits P one more n = go n n (omega arith)
+by-digits P one many n = go n n (omega arith)
   where
     go : (k n : ℕ) → n ≤ k → P n
     go zero n h = one n (omega arith)
-    go (suc k) n h = cases (ltb n 10) (λ t. one n (ltb-true n 10 t)) (λ t. more n (ltb-false n 10 t) (go k (n / 10) (omega (arith, ltb-false n 10 t))))
+    go (suc k) n h = cases (ltb n 10) (λ t. one n (ltb-true n 10 t)) (λ t. many n (ltb-false n 10 t) (go k (n / 10) (omega (arith, ltb-false n 10 t))))
 
 -- ---- the number again
 
-read-last : (v : ℕ) (s : List ℕ) (b : ℕ) → read v (s ++ (b ∷ [])) ≡ read v s * 10 + (b - 48)
-read-last v [] b = refl
-read-last v (a ∷ s) b = read-last (v * 10 + (a - 48)) s b
+value-after-last : (v : ℕ) (s : List ℕ) (b : ℕ) → value-after v (s ++ (b ∷ [])) ≡ value-after v s * 10 + (b - 48)
+value-after-last v [] b = refl
+value-after-last v (a ∷ s) b = value-after-last (v * 10 + (a - 48)) s b
 
 pub value-decimal : (n : ℕ) → value (decimal n) ≡ n
 unfolding value
 value-decimal =
-    by-digits (λ n. read 0 (decimal n) ≡ n)
+    by-digits (λ n. value-after 0 (decimal n) ≡ n)
     (λ n h. rw (decimal-one n h) (omega arith))
-    (λ n h r. rw (decimal-more n h, read-last 0 (decimal (n / 10)) (digit (n % 10)), r) (omega arith))
+    (λ n h r. rw (decimal-more n h, value-after-last 0 (decimal (n / 10)) (digit (n % 10)), r) (omega arith))
 
 -- ---- digits and nothing else
 
-pub data Digits : List ℕ → Type 0 where
-  none : Digits []
-  more : {b : ℕ} {s : List ℕ} → 48 ≤ b → b ≤ 57 → Digits s → Digits (b ∷ s)
-
-last-digit : {s : List ℕ} (d : ℕ) → d < 10 → Digits s → Digits (s ++ (digit d ∷ []))
+last-digit : {s : List ℕ} (d : ℕ) → d < 10 → AllDigits s → AllDigits (s ++ (digit d ∷ []))
 last-digit d h none = more {b = digit d} (omega arith) (omega arith) none
 last-digit d h (more l m r) = more l m (last-digit d h r)
 
-pub decimal-digits : (n : ℕ) → Digits (decimal n)
+pub decimal-digits : (n : ℕ) → AllDigits (decimal n)
 decimal-digits =
-    by-digits (λ n. Digits (decimal n))
+    by-digits (λ n. AllDigits (decimal n))
     (λ n h. rw (decimal-one n h) (more {b = digit n} (omega arith) (omega arith) none))
     (λ n h r. rw (decimal-more n h) (last-digit (n % 10) (omega arith) r))
 
@@ -107,26 +103,26 @@ length-decimal (suc k) n l h =
     next zero b h r = absurd (omega (arith, pow-zero 10))
     next (suc k) b h r = omega (arith, r (omega arith) (omega arith))
 
-read-below : (v : ℕ) {s : List ℕ} → Digits s → read v s < (v + 1) * 10 ^ length s
-read-below v none = omega (arith, pow-zero 10)
-read-below v (more {b = b} {s = s} l m r) =
+value-after-below : (v : ℕ) {s : List ℕ} → AllDigits s → value-after v s < (v + 1) * 10 ^ length s
+value-after-below v none = omega (arith, pow-zero 10)
+value-after-below v (more {b = b} {s = s} l m r) =
     rw (pow-succ' 10 (length s), ← mul-assoc (v + 1) 10 (10 ^ length s))
-    (lt-of-lt-of-le (read-below (v * 10 + (b - 48)) r) (mul-le-mul-right (10 ^ length s) (omega arith)))
+    (lt-of-lt-of-le (value-after-below (v * 10 + (b - 48)) r) (mul-le-mul-right (10 ^ length s) (omega arith)))
 
 -- no digits that stand for n are fewer
-pub decimal-fewest : (s : List ℕ) → Digits s → 0 < length s → length (decimal (value s)) ≤ length s
+pub decimal-fewest : (s : List ℕ) → AllDigits s → 0 < length s → length (decimal (value s)) ≤ length s
 unfolding value
-decimal-fewest s d h = length-decimal (length s) (read 0 s) h (omega (arith, read-below 0 d))
+decimal-fewest s d h = length-decimal (length s) (value-after 0 s) h (omega (arith, value-after-below 0 d))
 
 -- ---- signed numbers
 
-integer-unsigned : {s : List ℕ} → Digits s → 1 ≤ length s → integer s ≡ pos (value s)
+integer-unsigned : {s : List ℕ} → AllDigits s → 1 ≤ length s → integer s ≡ pos (value s)
 unfolding integer
 integer-unsigned none h = absurd (omega arith)
 integer-unsigned (more {b = b} {s = s} l m d) h = rw (ne-eqb b minus (λ e. omega (arith, e)), integer)
 
 -- the number again
-pub integer-signed : (z : ℤ) → integer (signed z) ≡ z
-unfolding signed integer
-integer-signed (pos n) = integer-unsigned (decimal-digits n) (decimal-some n) ∙ ap pos (value-decimal n)
-integer-signed (negsuc n) = ap (λ (m : ℕ). negℤ (pos m)) (value-decimal (suc n))
+pub integer-signed-decimal : (z : ℤ) → integer (signed-decimal z) ≡ z
+unfolding signed-decimal integer
+integer-signed-decimal (pos n) = integer-unsigned (decimal-digits n) (decimal-some n) ∙ ap pos (value-decimal n)
+integer-signed-decimal (negsuc n) = ap (λ (m : ℕ). negℤ (pos m)) (value-decimal (suc n))

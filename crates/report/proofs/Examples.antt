@@ -8,16 +8,16 @@ use Rattle.sheet.specs.declared.Record.{Record}
 use Rattle.sheet.specs.Layout.{encoded, decoded, trailer, trailer-at}
 use Rattle.integers.specs.Minimum.{minℤ, halfℤ}
 use Rattle.octagon.specs.NormalForm.{even-bound, odd-bound, tight-even, tight-odd, normal-form, has-cell, is-on-map, placed, normalised}
-use Rattle.cell_count.specs.Area.{triangle, rectangle, corners, area, cell-count}
+use Rattle.cell_count.specs.Area.{triangle, rectangle, cuts, area, cell-count}
 use Rattle.outline.specs.Walk.{vertex}
 use Rattle.outline.specs.Closing.{closes}
 use Rattle.outline.specs.Tracing.{bounds-at, drawn, traced}
 use Rattle.records.specs.Numbers.{signed, twos}
 use Rattle.sheet.specs.Checking.{stated, framed, judged, surveyed, checked}
-use Rattle.report.specs.Text.{ascii}
-use Rattle.report.specs.Decimal.{decimal, signed as signed-text}
+use Rattle.records.specs.Text.{ascii}
+use Rattle.report.specs.Decimal.{decimal, signed-decimal}
 use Rattle.report.specs.Lines.{heading-line, row-line, last-line, refused-line}
-use Rattle.report.specs.Listing.{cells, plots, row, full, listing}
+use Rattle.report.specs.Listing.{cell-number, plots, row-of, full, listing}
 
 -- record 7 is start (2,-1), n0=3 n2=1 n4=3 n6=1; record 11407 is K13
 seventh : Record
@@ -37,7 +37,7 @@ texts =
     ascii "plot i j n0 n1 n2 n3 n4 n5 n6 n7 cells\nplots 0 cells 0\n" ∷ ascii "refused 8\n" ∷ ascii "refused 9\n" ∷ ascii "refused 11\n" ∷ []
 
 listed : map (λ s. listing s (length s)) sheets ≡ texts
-unfolding sheets texts seventh piece encoded decoded trailer trailer-at checked framed stated surveyed judged twos signed traced drawn bounds-at vertex closes placed is-on-map cell-count normalised normal-form tight-even tight-odd even-bound odd-bound has-cell minℤ halfℤ area rectangle corners triangle listing full plots row cells heading-line row-line last-line refused-line decimal signed-text
+unfolding sheets texts seventh piece encoded decoded trailer trailer-at checked framed stated surveyed judged twos signed traced drawn bounds-at vertex closes placed is-on-map cell-count normalised normal-form tight-even tight-odd even-bound odd-bound has-cell minℤ halfℤ area rectangle cuts triangle listing full plots row-of cell-number heading-line row-line last-line refused-line decimal signed-decimal
 listed = refl
 
 -- numbers at the ends of their ranges
@@ -45,6 +45,6 @@ numbers : map decimal (0 ∷ 9 ∷ 10 ∷ 18446744073709551615 ∷ []) ≡ ascii
 unfolding decimal
 numbers = refl
 
-integers : map signed-text (pos 0 ∷ negsuc 0 ∷ pos 2147483647 ∷ negsuc 2147483647 ∷ []) ≡ ascii "0" ∷ ascii "-1" ∷ ascii "2147483647" ∷ ascii "-2147483648" ∷ []
-unfolding decimal signed-text
+integers : map signed-decimal (pos 0 ∷ negsuc 0 ∷ pos 2147483647 ∷ negsuc 2147483647 ∷ []) ≡ ascii "0" ∷ ascii "-1" ∷ ascii "2147483647" ∷ ascii "-2147483648" ∷ []
+unfolding decimal signed-decimal
 integers = refl

@@ -10,22 +10,22 @@ use lib.ListN.{length, getD, drop, length-append}
 use Rattle.integers.proofs.Parts.{up, dn, subℕ-parts}
 use Rattle.octagon.specs.Outcome.{Outcome, accepted, refused}
 use Rattle.octagon.proofs.Outcomes.{refused-same, accepted-not-refused}
-use Rattle.records.specs.Numbers.{signed as two-complement, unpacked}
+use Rattle.records.specs.Numbers.{AreBytes, signed, unpacked}
 use Rattle.records.specs.Parts.{part}
 use Rattle.records.specs.Rows.{records}
-use Rattle.records.proofs.Numbers.{Bytes}
 use Rattle.sheet.specs.declared.Record.{Record}
 use Rattle.sheet.specs.Layout.{record-length, layout, decoded}
 use Rattle.sheet.specs.Checking.{first, rows, checked}
 use Rattle.sheet.proofs.RecordBytes.{decoded-at, field-below}
-use Rattle.sheet.proofs.Checks.{checked-known}
-use Rattle.sheet.proofs.CheckCases.{Faulty, wrong-number, open-outline, off-outline, later, Checking, wrong-size, unmarked, misplaced, faulty, right, checking}
-use Rattle.report.specs.Text.{ascii}
-use Rattle.report.specs.Decimal.{decimal, sign, signed}
+use Rattle.sheet.proofs.Checks.{checked-holds}
+use Rattle.sheet.specs.Cases.{Faulty, wrong-number, open-outline, off-outline, later, CheckCase, wrong-size, unmarked, misplaced, faulty, right}
+use Rattle.sheet.proofs.CheckCases.{check-case}
+use Rattle.records.specs.Text.{ascii}
+use Rattle.report.specs.Decimal.{decimal, sign, signed-decimal}
 use Rattle.report.specs.Lines.{spaced, line, heading-line, row-line, last-line, refused-line}
-use Rattle.report.specs.Listing.{cells, plots, row, rows-of, total, full, shown, listing, line-limit, text-limit}
+use Rattle.report.specs.Listing.{cell-number, plots, row-of, rows-of, total-cells, full, text-of, listing, line-limit, text-limit}
 use Rattle.report.proofs.Decimals.{length-decimal}
-use Rattle.report.proofs.Plots.{length-plots, cells-most, total-most}
+use Rattle.report.proofs.Plots.{length-plots, cells-most, total-cells-most}
 
 -- ---- words and lines
 
@@ -44,9 +44,9 @@ line-length w {ws} h s = omega (arith, length-append w (spaced ws), spaced-lengt
 number-short : (n : ℕ) → n < 2 ^ 64 → length (decimal n) ≤ 20
 number-short n h = length-decimal 20 n (omega arith) (omega arith)
 
-signed-short : (z : ℤ) → natAbs z < 2 ^ 63 → length (signed z) ≤ 20
-unfolding signed
-signed-short z h = omega (arith, length-append (sign z) (decimal (natAbs z)), one z, length-decimal 19 (natAbs z) (omega arith) (omega arith))
+signed-decimal-short : (z : ℤ) → natAbs z < 2 ^ 63 → length (signed-decimal z) ≤ 20
+unfolding signed-decimal
+signed-decimal-short z h = omega (arith, length-append (sign z) (decimal (natAbs z)), one z, length-decimal 19 (natAbs z) (omega arith) (omega arith))
   where
     one : (z : ℤ) → length (sign z) ≤ 1
     one (pos n) = omega arith
@@ -56,8 +56,8 @@ signed-short z h = omega (arith, length-append (sign z) (decimal (natAbs z)), on
 numbers : (n : ℕ) {ws : List (List ℕ)} → n < 2 ^ 64 → Short ws → Short (decimal n ∷ ws)
 numbers n h s = more {w = decimal n} (number-short n h) s
 
-integers : (z : ℤ) {ws : List (List ℕ)} → natAbs z < 2 ^ 63 → Short ws → Short (signed z ∷ ws)
-integers z h s = more {w = signed z} (signed-short z h) s
+integers : (z : ℤ) {ws : List (List ℕ)} → natAbs z < 2 ^ 63 → Short ws → Short (signed-decimal z ∷ ws)
+integers z h s = more {w = signed-decimal z} (signed-decimal-short z h) s
 
 -- ---- a record that was read from bytes
 
@@ -80,15 +80,15 @@ unfolding up dn
 far v (pos n) h e = omega arith
 far v (negsuc n) h e = omega arith
 
-start-small : (v : ℕ) → v < 65536 → natAbs (two-complement 2 v) < 2 ^ 63
-unfolding two-complement
+start-small : (v : ℕ) → v < 65536 → natAbs (signed 2 v) < 2 ^ 63
+unfolding signed
 start-small v h = go (ltb v 32768)
   where
     go : (b : Bool) → natAbs (cond b (pos v) (subℕ v 65536)) < 2 ^ 63
     go true = omega arith
     go false = far v (subℕ v 65536) h (subℕ-parts v 65536)
 
-small : (s : List ℕ) (at : ℕ) → Bytes s → Small (decoded (part s at record-length))
+small : (s : List ℕ) (at : ℕ) → AreBytes s → Small (decoded (part s at record-length))
 small s at b =
     let below : (k : ℕ) → k < length layout → getD (unpacked layout (drop at s)) k 0 < 256 ^ getD layout k 0 = λ k. field-below s at k b in
     rw (decoded-at s at) record {
@@ -105,23 +105,23 @@ small s at b =
       n7 = omega (arith, below 10 (omega arith));
     }
 
-row-length : (r : Record) → Small r → length (row r) ≤ line-limit
-unfolding row row-line
+row-length : (r : Record) → Small r → length (row-of r) ≤ line-limit
+unfolding row-of row-line
 row-length r h =
     let o = r .outline in
     line-length (decimal (r .number)) (number-short (r .number) (h .number))
     (integers (o .i) (h .i) (integers (o .j) (h .j)
     (numbers (o .n0) (h .n0) (numbers (o .n1) (h .n1) (numbers (o .n2) (h .n2) (numbers (o .n3) (h .n3)
     (numbers (o .n4) (h .n4) (numbers (o .n5) (h .n5) (numbers (o .n6) (h .n6) (numbers (o .n7) (h .n7)
-    (numbers (cells o) (omega (arith, cells-most o)) none)))))))))))
+    (numbers (cell-number o) (omega (arith, cells-most o)) none)))))))))))
 
-rows-length : (s : List ℕ) (at n : ℕ) → Bytes s → length (rows-of (map decoded (records record-length s at n))) ≤ line-limit * n
+rows-length : (s : List ℕ) (at n : ℕ) → AreBytes s → length (rows-of (map decoded (records record-length s at n))) ≤ line-limit * n
 rows-length s at zero b = omega arith
 rows-length s at (suc n) b =
     let r = decoded (part s at record-length) in
     omega (
       arith,
-      length-append (row r) (rows-of (map decoded (records record-length s (at + record-length) n))),
+      length-append (row-of r) (rows-of (map decoded (records record-length s (at + record-length) n))),
       row-length r (small s at b),
       rows-length s (at + record-length) n b,
     )
@@ -144,31 +144,31 @@ fault-small (open-outline h f) = omega arith
 fault-small (off-outline h k f) = omega arith
 fault-small (later h t f) = fault-small f
 
-refusal-small : {s : List ℕ} {len : ℕ} {o : Outcome ℕ} (e : ℕ) → Checking s len o → o ≡ refused e → e ≤ 11
+refusal-small : {s : List ℕ} {len : ℕ} {o : Outcome ℕ} (e : ℕ) → CheckCase s len o → o ≡ refused e → e ≤ 11
 refusal-small e (wrong-size h) q = omega (arith, refused-same q)
 refusal-small e (unmarked z h) q = omega (arith, refused-same q)
 refusal-small e (misplaced z m h) q = omega (arith, refused-same q)
 refusal-small e (faulty f h) q = omega (arith, refused-same q, fault-small h)
 refusal-small e (right f g) q = absurd (accepted-not-refused q)
 
-full-length : (s : List ℕ) (len c : ℕ) → Bytes s → checked s len ≡ accepted c → length (full (plots s len c)) ≤ text-limit
+full-length : (s : List ℕ) (len c : ℕ) → AreBytes s → checked s len ≡ accepted c → length (full (plots s len c)) ≤ text-limit
 unfolding full plots heading-line
 full-length s len c b e =
-    let k = checked-known s len c e in
+    let k = checked-holds s len c e in
     let rs = map decoded (rows s len c) in
     let n = length-plots s len c in
     omega (
       arith,
-      length-append heading-line (rows-of rs ++ last-line (length rs) (total rs)),
-      length-append (rows-of rs) (last-line (length rs) (total rs)),
+      length-append heading-line (rows-of rs ++ last-line (length rs) (total-cells rs)),
+      length-append (rows-of rs) (last-line (length rs) (total-cells rs)),
       rows-length s (first len c) c b,
-      last-length (length rs) (total rs) (omega arith) (omega (arith, total-most rs)),
+      last-length (length rs) (total-cells rs) (omega arith) (omega (arith, total-cells-most rs)),
     )
 
-pub listing-fits : (s : List ℕ) (len : ℕ) → Bytes s → length (listing s len) ≤ text-limit
+pub listing-fits : (s : List ℕ) (len : ℕ) → AreBytes s → length (listing s len) ≤ text-limit
 unfolding listing
 listing-fits s len b = go (checked s len) refl
   where
-    go : (o : Outcome ℕ) → checked s len ≡ o → length (shown s len o) ≤ text-limit
+    go : (o : Outcome ℕ) → checked s len ≡ o → length (text-of s len o) ≤ text-limit
     go (accepted c) e = full-length s len c b e
-    go (refused k) e = omega (arith, refused-length k (omega (arith, refusal-small k (checking s len) e)))
+    go (refused k) e = omega (arith, refused-length k (omega (arith, refusal-small k (check-case s len) e)))

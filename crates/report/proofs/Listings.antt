@@ -6,21 +6,18 @@ use native.Mathlib.Omega.{arith}
 use lib.ListN.{length, getD, List·getD-map}
 use Rattle.octagon.specs.declared.Octagon.{Octagon}
 use Rattle.octagon.specs.Outcome.{accepted, refused}
-use Rattle.octagon.specs.Cells.{_≐_, In, limit}
-use Rattle.cell_count.specs.Count.{count, inside}
 use Rattle.cell_count.proofs.Counted.{count-when}
 use Rattle.outline.specs.declared.Outline.{Outline}
-use Rattle.outline.specs.Walk.{InsideWalk}
 use Rattle.outline.specs.Tracing.{traced}
 use Rattle.outline.proofs.Tracings.{accepted-means}
-use Rattle.records.specs.Rows.{Rising, none, more}
 use Rattle.records.proofs.Rows.{length-records}
+use Rattle.records.proofs.Order.{ascending-at}
 use Rattle.sheet.specs.declared.Record.{Record}
 use Rattle.sheet.specs.Layout.{record-length, decoded}
-use Rattle.sheet.specs.Checking.{first, rows, checked, fetched}
+use Rattle.sheet.specs.Checking.{first, rows, checked}
 use Rattle.sheet.proofs.Checks.{checked-good, fetched-row}
-use Rattle.report.specs.Lines.{heading-line, row-line, last-line, refused-line}
-use Rattle.report.specs.Listing.{cells, plots, row, rows-of, total, full, listing}
+use Rattle.report.specs.Lines.{heading-line, last-line, refused-line}
+use Rattle.report.specs.Listing.{cell-number, plots, row-of, rows-of, total-cells, full, listing, CountedOutline, PlotRow}
 use Rattle.report.proofs.Plots.{length-plots}
 
 -- ---- the lines
@@ -36,41 +33,20 @@ listing-accepted s len c e = rw e
 
 -- any other gives the heading, the rows of its plots, and the last line with the record count and the sum of the plots' cells
 pub listing-lines : (s : List ℕ) (len c : ℕ) → checked s len ≡ accepted c
-    → listing s len ≡ heading-line ++ (rows-of (plots s len c) ++ last-line c (total (plots s len c)))
+    → listing s len ≡ heading-line ++ (rows-of (plots s len c) ++ last-line c (total-cells (plots s len c)))
 unfolding full
 listing-lines s len c e = listing-accepted s len c e ∙ counted (plots s len c) (length-plots s len c)
   where
-    counted : (rs : List Record) → length rs ≡ c → full rs ≡ heading-line ++ (rows-of rs ++ last-line c (total rs))
+    counted : (rs : List Record) → length rs ≡ c → full rs ≡ heading-line ++ (rows-of rs ++ last-line c (total-cells rs))
     counted rs e = rw e
 
 -- ---- the rows
 
--- the outline o is accepted, and n is the number of cells inside it
-pub record Counted (o : Outline) (n : ℕ) : Type 0 where
-  pub octagon : Octagon
-  pub is-octagon : traced o ≡ accepted octagon
-  pub same-cells : In octagon ≐ InsideWalk o
-  pub number : n ≡ count limit (inside octagon)
-
-pub cells-counted : (o : Outline) (a : Octagon) → traced o ≡ accepted a → Counted o (cells o)
-unfolding cells
+pub cells-counted : (o : Outline) (a : Octagon) → traced o ≡ accepted a → CountedOutline o (cell-number o)
+unfolding cell-number
 cells-counted o a e =
     let m = accepted-means o a e in
     record { octagon = a; is-octagon = e; same-cells = m .same-cells; number = rw (e, count-when a (m .is-normalised .some) (m .on-the-map)) }
-
--- the text b is the row of record k: the record that `fetch` gives for k, and the number of cells inside its outline
-pub record Row (s : List ℕ) (len k : ℕ) (b : List ℕ) : Type 0 where
-  pub plot : Record
-  pub cells : ℕ
-  pub is-fetched : fetched s len k ≡ accepted plot
-  pub is-counted : Counted (plot .outline) cells
-  pub text : b ≡ row-line plot cells
-
--- what holds of each record holds of the k-th
-rising-at : {P : List ℕ → Type 0} {v : ℕ} {bs : List (List ℕ)} (k : ℕ) → k < length bs → Rising P v bs → P (getD bs k [])
-rising-at k h none = absurd (omega arith)
-rising-at zero h (more l p r) = p
-rising-at (suc k) h (more l p r) = rising-at k (omega arith) r
 
 -- element k of a list that is mapped
 map-at : (f : Record → List ℕ) (rs : List Record) (k : ℕ) (d : Record) → k < length rs → getD (map f rs) k [] ≡ f (getD rs k d)
@@ -79,17 +55,17 @@ map-at f (r ∷ rs) zero d h = refl
 map-at f (r ∷ rs) (suc k) d h = map-at f rs k d (omega arith)
 
 -- a listing has a row for each record
-pub rows-fetched : (s : List ℕ) (len c k : ℕ) → checked s len ≡ accepted c → k < c → Row s len k (getD (map row (plots s len c)) k [])
-unfolding plots row
+pub rows-fetched : (s : List ℕ) (len c k : ℕ) → checked s len ≡ accepted c → k < c → PlotRow s len k (getD (map row-of (plots s len c)) k [])
+unfolding plots row-of
 rows-fetched s len c k e h =
     let n : k < length (plots s len c) = omega (arith, length-plots s len c) in
     let l : k < length (rows s len c) = omega (arith, length-records record-length s (first len c) c) in
     let b = getD (rows s len c) k [] in
-    let t = rising-at k l (checked-good s len c e .records) in
+    let t = ascending-at k l (checked-good s len c e .records) in
     record {
       plot = decoded b;
-      cells = cells (decoded b .outline);
+      cell-number = cell-number (decoded b .outline);
       is-fetched = fetched-row s len c k e h;
       is-counted = cells-counted (decoded b .outline) (t .0) (t .1);
-      text = map-at row (map decoded (rows s len c)) k (decoded []) n ∙ ap row (List·getD-map decoded (rows s len c) k []);
+      text = map-at row-of (map decoded (rows s len c)) k (decoded []) n ∙ ap row-of (List·getD-map decoded (rows s len c) k []);
     }

@@ -1,4 +1,4 @@
--- Numbers in a line, one after the other. Assumes nothing.
+-- Numbers in a line, one after the other, and the parts of a row. Assumes nothing.
 use mathlib.Core.Path.{_≡_, ap}
 use mathlib.Core.List.{List, [], _∷_, _++_, map, append-assoc}
 use Prim.Native.Nat.{ℕ, suc, _+_, _≤_, _<_}
@@ -9,7 +9,7 @@ use lib.Seq.{drop-cons}
 use Rattle.sheet.specs.declared.Record.{Record}
 use Rattle.report.specs.Decimal.{decimal}
 use Rattle.report.specs.Lines.{space, newline, spaced, row-start, row-line, Put}
-use Rattle.report.proofs.Writing.{put-byte, put-then, Left, left-more}
+use Rattle.report.proofs.Writing.{put-byte, put-then, ToPut, to-put-more}
 
 -- a byte and then a word
 pub put-cons : {s t : List ℕ} {at next : ℕ} (b : ℕ) (w : List ℕ) → at < length s → Put (set s at b) (at + 1) w t next → Put s at (b ∷ w) t next
@@ -26,19 +26,19 @@ words-end : (vs : List ℕ) (k : ℕ) → length vs ≤ k → words vs k ≡ new
 words-end vs k h = rw (drop-of-length-le vs h)
 
 -- one number more
-pub number-room : {s w t : List ℕ} {at m : ℕ} (vs : List ℕ) (k : ℕ) → k < length vs → Left s at w t m (words vs k) → m + suc (length (decimal (getD vs k 0))) ≤ length t
+pub number-room : {s w t : List ℕ} {at m : ℕ} (vs : List ℕ) (k : ℕ) → k < length vs → ToPut s at w t m (words vs k) → m + suc (length (decimal (getD vs k 0))) ≤ length t
 number-room vs k h l =
     omega (arith, l .fits, ap length (words-more vs k h), length-append (space ∷ decimal (getD vs k 0)) (words vs (k + 1)))
 
-pub number-more : {s w t u : List ℕ} {at m next : ℕ} (vs : List ℕ) (k : ℕ) → k < length vs → Left s at w t m (words vs k)
-    → Put t m (space ∷ decimal (getD vs k 0)) u next → Left s at w u next (words vs (k + 1))
-number-more vs k h l p = left-more (space ∷ decimal (getD vs k 0)) (words vs (k + 1)) (rw (words-more vs k h) at l) p
+pub number-more : {s w t u : List ℕ} {at m next : ℕ} (vs : List ℕ) (k : ℕ) → k < length vs → ToPut s at w t m (words vs k)
+    → Put t m (space ∷ decimal (getD vs k 0)) u next → ToPut s at w u next (words vs (k + 1))
+number-more vs k h l p = to-put-more (space ∷ decimal (getD vs k 0)) (words vs (k + 1)) (rw (words-more vs k h) at l) p
 
 -- the newline
-pub newline-room : {s w t : List ℕ} {at m : ℕ} (vs : List ℕ) (k : ℕ) → length vs ≤ k → Left s at w t m (words vs k) → m < length t
+pub newline-room : {s w t : List ℕ} {at m : ℕ} (vs : List ℕ) (k : ℕ) → length vs ≤ k → ToPut s at w t m (words vs k) → m < length t
 newline-room vs k h l = omega (arith, l .fits, ap length (words-end vs k h))
 
-pub numbers-end : {s w t : List ℕ} {at m : ℕ} (vs : List ℕ) (k : ℕ) → length vs ≤ k → Left s at w t m (words vs k) → Put s at w (set t m newline) (m + 1)
+pub numbers-end : {s w t : List ℕ} {at m : ℕ} (vs : List ℕ) (k : ℕ) → length vs ≤ k → ToPut s at w t m (words vs k) → Put s at w (set t m newline) (m + 1)
 numbers-end {t = t} {m = m} vs k h l = l .rest (rw (words-end vs k h) (put-byte t m newline (newline-room vs k h l)))
 
 -- ---- a row

@@ -18,8 +18,8 @@ use Rattle.sheet.specs.Layout.{record-length, decoded}
 use Rattle.sheet.specs.Checking.{first, rows, checked, fetched}
 use Rattle.sheet.proofs.Checks.{fetched-row}
 use Rattle.report.specs.Lines.{row-line, Put}
-use Rattle.report.specs.Listing.{count-of, cells, plots, row, rows-of, total}
-use Rattle.report.proofs.Writing.{Left, left-more, left-room}
+use Rattle.report.specs.Listing.{or-nought, cell-number, plots, row-of, rows-of, total-cells}
+use Rattle.report.proofs.Writing.{ToPut, to-put-more, to-put-room}
 
 -- ---- the records
 
@@ -37,47 +37,47 @@ fetched-plot s len c k e h = fetched-row s len c k e h ∙ ap accepted (sym (Lis
 
 -- ---- the cells
 
-count-most : (o : Octagon) → count-of (cell-count o) < 2 ^ 32
+count-most : (o : Octagon) → or-nought (cell-count o) < 2 ^ 32
 count-most o = go (cell-count o) refl
   where
-    go : (t : Outcome ℕ) → cell-count o ≡ t → count-of t < 2 ^ 32
+    go : (t : Outcome ℕ) → cell-count o ≡ t → or-nought t < 2 ^ 32
     go (accepted n) e = let p = count-accepted o n e in rw (p .2) at (area-fits o (p .0) (p .1))
     go (refused k) e = omega arith
 
-pub cells-most : (o : Outline) → cells o < 2 ^ 32
-unfolding cells
+pub cells-most : (o : Outline) → cell-number o < 2 ^ 32
+unfolding cell-number
 cells-most o = go (traced o)
   where
-    go : (t : Outcome Octagon) → count-of (then t cell-count) < 2 ^ 32
+    go : (t : Outcome Octagon) → or-nought (then t cell-count) < 2 ^ 32
     go (accepted a) = count-most a
     go (refused k) = omega arith
 
-pub total-most : (rs : List Record) → total rs ≤ length rs * 4294967295
-total-most [] = omega arith
-total-most (r ∷ rs) = omega (arith, cells-most (r .outline), total-most rs)
+pub total-cells-most : (rs : List Record) → total-cells rs ≤ length rs * 4294967295
+total-cells-most [] = omega arith
+total-cells-most (r ∷ rs) = omega (arith, cells-most (r .outline), total-cells-most rs)
 
 -- ---- the rows from the k-th on
 
 abbrev pub rest : List Record → ℕ → List ℕ
 rest rs k = rows-of (drop k rs)
 
-module _ (rs : List Record) (k : ℕ) (h : k < length rs) (r : Record) (e : r ≡ plot rs k) (n : ℕ) (f : n ≡ cells (r .outline)) where
+module _ (rs : List Record) (k : ℕ) (h : k < length rs) (r : Record) (e : r ≡ plot rs k) (n : ℕ) (f : n ≡ cell-number (r .outline)) where
   rest-more : rest rs k ≡ row-line r n ++ rest rs (k + 1)
-  unfolding row
+  unfolding row-of
   rest-more = rw (drop-cons rs k (decoded []) h, add-one k, f, e)
 
-  pub row-room : {s w t : List ℕ} {at m : ℕ} → Left s at w t m (rest rs k) → m + length (row-line r n) ≤ length t
-  row-room l = left-room (row-line r n) (rest rs (k + 1)) (rw rest-more at l)
+  pub row-room : {s w t : List ℕ} {at m : ℕ} → ToPut s at w t m (rest rs k) → m + length (row-line r n) ≤ length t
+  row-room l = to-put-room (row-line r n) (rest rs (k + 1)) (rw rest-more at l)
 
-  pub row-more : {s w t u : List ℕ} {at m next : ℕ} → Left s at w t m (rest rs k) → Put t m (row-line r n) u next → Left s at w u next (rest rs (k + 1))
-  row-more l p = left-more (row-line r n) (rest rs (k + 1)) (rw rest-more at l) p
+  pub row-more : {s w t u : List ℕ} {at m next : ℕ} → ToPut s at w t m (rest rs k) → Put t m (row-line r n) u next → ToPut s at w u next (rest rs (k + 1))
+  row-more l p = to-put-more (row-line r n) (rest rs (k + 1)) (rw rest-more at l) p
 
-  pub total-more : total (drop k rs) ≡ n + total (drop (k + 1) rs)
-  total-more = rw (drop-cons rs k (decoded []) h, add-one k, f, e)
+  pub total-cells-more : total-cells (drop k rs) ≡ n + total-cells (drop (k + 1) rs)
+  total-cells-more = rw (drop-cons rs k (decoded []) h, add-one k, f, e)
 
 -- none is left
 pub rest-end : (rs : List Record) (k : ℕ) → length rs ≤ k → rest rs k ≡ []
 rest-end rs k h = rw (drop-of-length-le rs h)
 
-pub total-end : (rs : List Record) (k : ℕ) → length rs ≤ k → total (drop k rs) ≡ 0
-total-end rs k h = rw (drop-of-length-le rs h)
+pub total-cells-end : (rs : List Record) (k : ℕ) → length rs ≤ k → total-cells (drop k rs) ≡ 0
+total-cells-end rs k h = rw (drop-of-length-le rs h)

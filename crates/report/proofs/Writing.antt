@@ -1,4 +1,4 @@
--- Words put into a buffer one after the other. Assumes nothing.
+-- Words put into a buffer one after the other, and what is still to be put. Assumes nothing.
 use mathlib.Core.Path.{_≡_, refl, sym, ap, _∙_}
 use mathlib.Core.List.{List, [], _∷_, _++_}
 use Prim.Native.Nat.{ℕ, _+_, _≤_, _<_}
@@ -8,7 +8,7 @@ use native.Mathlib.Numerals.{add-one}
 use lib.ListN.{length, take, getD, set, length-append}
 use lib.Seq.{length-take-le, take-suc, take-all}
 use Rattle.records.proofs.Splices.{splice-nil, length-splice, splice-append, splice-one}
-use Rattle.report.specs.Lines.{Put, Counts}
+use Rattle.report.specs.Lines.{Put, Prefix}
 
 -- nothing, one byte, and one word after another
 pub put-nothing : (s : List ℕ) (at : ℕ) → at ≤ length s → Put s at [] s at
@@ -22,8 +22,8 @@ pub put-length : {s w t : List ℕ} {at next : ℕ} → Put s at w t next → le
 put-length {s} {w} {t} {at} p = ap length (p .text) ∙ length-splice s at w (p .fits)
 
 -- what has been put from the start on is counted
-pub put-counts : {s w t : List ℕ} {next : ℕ} → Put s 0 w t next → Counts next t
-put-counts {t = t} {next = n} p = let h : n ≤ length t = omega (arith, p .fits, p .past, put-length p) in (h, sym (length-take-le n t h))
+pub put-prefix : {s w t : List ℕ} {next : ℕ} → Put s 0 w t next → Prefix next t
+put-prefix {t = t} {next = n} p = let h : n ≤ length t = omega (arith, p .fits, p .past, put-length p) in (h, sym (length-take-le n t h))
 
 pub put-then : {s v w t u : List ℕ} {at m next : ℕ} → Put s at v t m → Put t m w u next → Put s at (v ++ w) u next
 put-then {s} {v} {w} {t} {u} {at} {m} p q =
@@ -52,20 +52,20 @@ put-all w i h p = rw (take-all i w h) at p
 -- ---- what is left to put
 
 -- the words v are still to be put into t, from index m on, and that makes of s what w does from index at on
-pub record Left (s : List ℕ) (at : ℕ) (w t : List ℕ) (m : ℕ) (v : List ℕ) : Type 0 where
+pub record ToPut (s : List ℕ) (at : ℕ) (w t : List ℕ) (m : ℕ) (v : List ℕ) : Type 0 where
   pub fits : m + length v ≤ length t
   pub size : length t ≡ length s
   pub rest : {u : List ℕ} {next : ℕ} → Put t m v u next → Put s at w u next
 
-pub left-all : (s : List ℕ) (at : ℕ) (w : List ℕ) → at + length w ≤ length s → Left s at w s at w
-left-all s at w h = record { fits = h; size = refl; rest = λ p. p }
+pub to-put-all : (s : List ℕ) (at : ℕ) (w : List ℕ) → at + length w ≤ length s → ToPut s at w s at w
+to-put-all s at w h = record { fits = h; size = refl; rest = λ p. p }
 
 -- all of it, in parts
-pub left-parts : (s : List ℕ) (at : ℕ) (w v : List ℕ) → w ≡ v → at + length w ≤ length s → Left s at w s at v
-left-parts s at w v e h = record { fits = rw e at h; size = refl; rest = λ p. rw e p }
+pub to-put-parts : (s : List ℕ) (at : ℕ) (w v : List ℕ) → w ≡ v → at + length w ≤ length s → ToPut s at w s at v
+to-put-parts s at w v e h = record { fits = rw e at h; size = refl; rest = λ p. rw e p }
 
-pub left-more : {s w t u : List ℕ} {at m next : ℕ} (x v : List ℕ) → Left s at w t m (x ++ v) → Put t m x u next → Left s at w u next v
-left-more x v l p =
+pub to-put-more : {s w t u : List ℕ} {at m next : ℕ} (x v : List ℕ) → ToPut s at w t m (x ++ v) → Put t m x u next → ToPut s at w u next v
+to-put-more x v l p =
     let n = length-append x v in
     record {
       fits = omega (arith, l .fits, put-length p, p .past);
@@ -74,5 +74,5 @@ left-more x v l p =
     }
 
 -- the next word fits
-pub left-room : {s w t : List ℕ} {at m : ℕ} (x v : List ℕ) → Left s at w t m (x ++ v) → m + length x ≤ length t
-left-room x v l = omega (arith, l .fits, length-append x v)
+pub to-put-room : {s w t : List ℕ} {at m : ℕ} (x v : List ℕ) → ToPut s at w t m (x ++ v) → m + length x ≤ length t
+to-put-room x v l = omega (arith, l .fits, length-append x v)

@@ -6,8 +6,8 @@ use lib.IntN.{ℤ}
 use lib.ListN.{length, take}
 use Rattle.records.specs.Parts.{splice}
 use Rattle.sheet.specs.declared.Record.{Record}
-use Rattle.report.specs.Text.{ascii}
-use Rattle.report.specs.Decimal.{decimal, signed}
+use Rattle.records.specs.Text.{ascii}
+use Rattle.report.specs.Decimal.{decimal, signed-decimal}
 
 -- ---- lines
 
@@ -31,14 +31,14 @@ heading-line = ascii "plot i j n0 n1 n2 n3 n4 n5 n6 n7 cells\n"
 
 -- how a row begins: the plot number and the start
 unfoldable pub row-start : ℕ → ℤ → ℤ → List ℕ
-row-start v i j = decimal v ++ ((space ∷ signed i) ++ (space ∷ signed j))
+row-start v i j = decimal v ++ ((space ∷ signed-decimal i) ++ (space ∷ signed-decimal j))
 
 -- the row of a plot with n cells
 unfoldable pub row-line : Record → ℕ → List ℕ
 row-line r n =
     let o = r .outline in
     line (decimal (r .number))
-    (signed (o .i) ∷ signed (o .j)
+    (signed-decimal (o .i) ∷ signed-decimal (o .j)
     ∷ decimal (o .n0) ∷ decimal (o .n1) ∷ decimal (o .n2) ∷ decimal (o .n3) ∷ decimal (o .n4) ∷ decimal (o .n5) ∷ decimal (o .n6) ∷ decimal (o .n7)
     ∷ decimal n ∷ [])
 
@@ -59,5 +59,5 @@ pub record Put (s : List ℕ) (at : ℕ) (w t : List ℕ) (next : ℕ) : Type 0 
   pub past : next ≡ at + length w
 
 -- n counts bytes at the start of t. The second part follows from the first; with both, a caller can lend those bytes with no proof.
-abbrev pub Counts : ℕ → List ℕ → Type 0
-Counts n t = (n ≤ length t) × (n ≡ length (take n t))
+abbrev pub Prefix : ℕ → List ℕ → Type 0
+Prefix n t = (n ≤ length t) × (n ≡ length (take n t))

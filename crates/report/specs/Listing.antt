@@ -1,55 +1,79 @@
--- The listing of a sheet, as the program of document 01 writes it: a definition that computes. proofs/Listings.antt says what it has.
--- Assumes nothing.
+-- The listing of a sheet, as the program of document 01 writes it: a definition that computes; and what a row says of its record
+-- (`PlotRow`), which proofs/Listings.antt shows of it. Assumes nothing.
+use mathlib.Core.Path.{_≡_}
 use mathlib.Core.List.{List, [], _∷_, _++_, map}
 use Prim.Native.Nat.{ℕ, _+_, _-_, _*_, _/_}
 use lib.ListN.{length}
+use Rattle.octagon.specs.declared.Octagon.{Octagon}
 use Rattle.octagon.specs.Outcome.{Outcome, accepted, refused, then}
+use Rattle.octagon.specs.Cells.{_≐_, In, limit}
+use Rattle.cell_count.specs.Count.{count, inside}
 use Rattle.cell_count.specs.Area.{cell-count}
 use Rattle.outline.specs.declared.Outline.{Outline}
+use Rattle.outline.specs.Walk.{InsideWalk}
 use Rattle.outline.specs.Tracing.{traced}
 use Rattle.records.specs.Rows.{joined}
 use Rattle.sheet.specs.declared.Record.{Record}
 use Rattle.sheet.specs.Layout.{sheet-limit, record-length, trailer-length, decoded}
-use Rattle.sheet.specs.Checking.{rows, checked}
+use Rattle.sheet.specs.Checking.{rows, checked, fetched}
 use Rattle.report.specs.Lines.{heading-line, row-line, last-line, refused-line}
 
 -- a count, and 0 for a refusal
-abbrev pub count-of : Outcome ℕ → ℕ
-count-of (accepted n) = n
-count-of (refused k) = 0
+abbrev pub or-nought : Outcome ℕ → ℕ
+or-nought (accepted n) = n
+or-nought (refused k) = 0
 
 -- the number of cells inside an outline. No outline of a checked sheet is refused.
-unfoldable pub cells : Outline → ℕ
-cells o = count-of (then (traced o) cell-count)
+unfoldable pub cell-number : Outline → ℕ
+cell-number o = or-nought (then (traced o) cell-count)
 
 -- the plots of a checked sheet with c records
 unfoldable pub plots : List ℕ → ℕ → ℕ → List Record
 plots s len c = map decoded (rows s len c)
 
 -- the row of a plot, and the rows of plots
-unfoldable pub row : Record → List ℕ
-row r = row-line r (cells (r .outline))
+unfoldable pub row-of : Record → List ℕ
+row-of r = row-line r (cell-number (r .outline))
 
 abbrev pub rows-of : List Record → List ℕ
-rows-of rs = joined (map row rs)
+rows-of rs = joined (map row-of rs)
 
 -- the sum of the cells of plots: ground in two plots counts twice
-abbrev pub total : List Record → ℕ
-total [] = 0
-total (r ∷ rs) = cells (r .outline) + total rs
+abbrev pub total-cells : List Record → ℕ
+total-cells [] = 0
+total-cells (r ∷ rs) = cell-number (r .outline) + total-cells rs
 
 -- the heading, a row for each plot, and the last line
 unfoldable pub full : List Record → List ℕ
-full rs = heading-line ++ (rows-of rs ++ last-line (length rs) (total rs))
+full rs = heading-line ++ (rows-of rs ++ last-line (length rs) (total-cells rs))
 
 -- what is written for the answer of a check
-abbrev pub shown : List ℕ → ℕ → Outcome ℕ → List ℕ
-shown s len (accepted c) = full (plots s len c)
-shown s len (refused k) = refused-line k
+abbrev pub text-of : List ℕ → ℕ → Outcome ℕ → List ℕ
+text-of s len (accepted c) = full (plots s len c)
+text-of s len (refused k) = refused-line k
 
 -- the listing of the sheet in the first len bytes of s
 unfoldable pub listing : List ℕ → ℕ → List ℕ
-listing s len = shown s len (checked s len)
+listing s len = text-of s len (checked s len)
+
+-- ---- a row in the words of document 01
+
+-- the outline o is accepted, and n is the number of cells inside it
+pub record CountedOutline (o : Outline) (n : ℕ) : Type 0 where
+  pub octagon : Octagon
+  pub is-octagon : traced o ≡ accepted octagon
+  pub same-cells : In octagon ≐ InsideWalk o
+  pub number : n ≡ count limit (inside octagon)
+
+-- the text b is the row of record k: the record that `fetch` gives for k, and the number of cells inside its outline
+pub record PlotRow (s : List ℕ) (len k : ℕ) (b : List ℕ) : Type 0 where
+  pub plot : Record
+  pub cell-number : ℕ
+  pub is-fetched : fetched s len k ≡ accepted plot
+  pub is-counted : CountedOutline (plot .outline) cell-number
+  pub text : b ≡ row-line plot cell-number
+
+-- ---- how long a listing can be
 
 -- no line is longer than twelve words of twenty bytes, each with a byte after it, and so no listing is longer than this
 abbrev pub line-limit : ℕ

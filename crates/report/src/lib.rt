@@ -5,7 +5,7 @@
 ghost use mathlib.Core.Path.{_≡_};
 ghost use lib.ListN.{length};
 ghost use Rattle.records.specs.Parts.{splice};
-ghost use Rattle.report.specs.Lines.{Counts};
+ghost use Rattle.report.specs.Lines.{Prefix};
 ghost use Rattle.report.specs.Listing.{listing};
 use sheet::Checked;
 
@@ -20,7 +20,7 @@ pub const TEXT: usize = LINE * ((sheet::LIMIT - sheet::TRAILER) / sheet::RECORD 
 
 // Puts the listing of the sheet in the first `len` bytes at the start of `text`, and answers its length.
 pub fn list(sheet: &[u8], len: usize, text: &mut [u8; TEXT]) -> usize
-    ensures { λ r. ⌜ Counts r (now (text .exit)) ⌝ }
+    ensures { λ r. ⌜ Prefix r (now (text .exit)) ⌝ }
     ensures { λ r. ⌜ (r ≡ length (listing (now (sheet .entry)) len)) × (now (text .exit) ≡ splice (now (text .entry)) 0 (listing (now (sheet .entry)) len)) ⌝ }
 {
     match sheet::check(sheet, len) {

@@ -5,7 +5,7 @@ ghost use lib.ListN.{length};
 ghost use Rattle.octagon.specs.Outcome.{accepted};
 ghost use Rattle.sheet.specs.Checking.{checked};
 ghost use Rattle.report.specs.Lines.{Put};
-ghost use Rattle.report.specs.Listing.{cells as «cell-number», plots, «rows-of», total, full};
+ghost use Rattle.report.specs.Listing.{«cell-number», plots, «rows-of», «total-cells», full};
 use crate::lines::put_heading;
 use crate::lines::put_last;
 use crate::lines::put_row;
@@ -38,7 +38,7 @@ fn put_rows(sheet: &[u8], len: usize, c: u32, text: &mut [u8], at: usize) -> Row
     requires { ⌜ checked (now sheet) len ≡ accepted c ⌝ }
     requires { ⌜ at + length («rows-of» (plots (now sheet) len c)) ≤ length (now text) ⌝ }
     ensures { λ r. ⌜ Put (now (text .entry)) at («rows-of» (plots (now (sheet .entry)) len c)) (now (text .exit)) (r .next) ⌝ }
-    ensures { λ r. ⌜ r .cells ≡ total (plots (now (sheet .entry)) len c) ⌝ }
+    ensures { λ r. ⌜ r .cells ≡ «total-cells» (plots (now (sheet .entry)) len c) ⌝ }
 {
     let mut next = at;
     let mut sum: u64 = 0;

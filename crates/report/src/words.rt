@@ -2,7 +2,7 @@
 ghost use mathlib.Core.List.{_∷_, [], map};
 ghost use Prim.Native.Nat.{_+_, _≤_, _<_};
 ghost use lib.ListN.{length};
-ghost use Rattle.report.specs.Decimal.{digit, decimal, sign, signed};
+ghost use Rattle.report.specs.Decimal.{digit, decimal, sign, «signed-decimal»};
 ghost use Rattle.report.specs.Lines.{Put, space, spaced};
 use integers::magnitude;
 
@@ -58,9 +58,9 @@ fn put_sign(text: &mut [u8], at: usize, z: i32) -> usize
 }
 
 // A signed number.
-fn put_signed(text: &mut [u8], at: usize, z: i32) -> usize
-    requires { ⌜ at + length (signed z) ≤ length (now text) ⌝ }
-    ensures { λ r. ⌜ Put (now (text .entry)) at (signed z) (now (text .exit)) r ⌝ }
+fn put_signed_decimal(text: &mut [u8], at: usize, z: i32) -> usize
+    requires { ⌜ at + length («signed-decimal» z) ≤ length (now text) ⌝ }
+    ensures { λ r. ⌜ Put (now (text .entry)) at («signed-decimal» z) (now (text .exit)) r ⌝ }
 {
     let next = put_sign(text, at, z);
     put_decimal(text, next, magnitude(z))
@@ -68,11 +68,11 @@ fn put_signed(text: &mut [u8], at: usize, z: i32) -> usize
 
 // A space and a signed number.
 pub fn put_integer(text: &mut [u8], at: usize, z: i32) -> usize
-    requires { ⌜ at + length (space ∷ signed z) ≤ length (now text) ⌝ }
-    ensures { λ r. ⌜ Put (now (text .entry)) at (space ∷ signed z) (now (text .exit)) r ⌝ }
+    requires { ⌜ at + length (space ∷ «signed-decimal» z) ≤ length (now text) ⌝ }
+    ensures { λ r. ⌜ Put (now (text .entry)) at (space ∷ «signed-decimal» z) (now (text .exit)) r ⌝ }
 {
     text[at] = SPACE;
-    put_signed(text, at + 1, z)
+    put_signed_decimal(text, at + 1, z)
 }
 
 // A space and a number.

@@ -1,9 +1,9 @@
--- The frame of a sheet, its length and its trailer: what each test says, and where the records of an accepted frame stand.
--- Assumes nothing.
+-- The frame of a sheet, its length and its trailer: what each test says, that a frame is accepted exactly where it is good, and that
+-- its records then lie in the buffer. Assumes nothing.
 use mathlib.Core.Path.{_≡_, refl, sym}
 use mathlib.Core.Bool.{Bool, true, false, cond, not, _||_}
 use mathlib.Core.List.{List}
-use Prim.Native.Nat.{ℕ, _-_, _*_, _≤_}
+use Prim.Native.Nat.{ℕ, _-_, _*_}
 use native.Mathlib.Omega.{arith}
 use lib.ListN.{length}
 use lib.Dec.{ltb, eqb}
@@ -14,35 +14,24 @@ use Rattle.records.proofs.Order.{or-false}
 use Rattle.sheet.specs.declared.trailer.Trailer.{Trailer}
 use Rattle.sheet.specs.Layout.{sheet-limit, record-length, trailer-length, letters, trailer-at}
 use Rattle.sheet.specs.Answers.{bad-length, bad-trailer, bad-distance}
-use Rattle.sheet.specs.Checking.{wrong-length, wrong-marks, wrong-distance, stated, framed, Framed}
+use Rattle.sheet.specs.Checking.{is-bad-length, has-bad-marks, is-bad-distance, stated, framed, HoldsRecords}
+use Rattle.sheet.specs.Cases.{GoodLength, GoodMarks, GoodDistance, GoodFrame}
 
 -- ---- the length
 
--- a length that a sheet may have in the buffer s
-pub record Sized (s : List ℕ) (len : ℕ) : Type 0 where
-  pub long : trailer-length ≤ len
-  pub short : len ≤ sheet-limit
-  pub within : len ≤ length s
-
-pub size-passed : (s : List ℕ) (len : ℕ) → wrong-length s len ≡ false → Sized s len
-size-passed s len e =
+pub good-length : (s : List ℕ) (len : ℕ) → is-bad-length s len ≡ false → GoodLength s len
+good-length s len e =
     let p = or-false (ltb len trailer-length || ltb sheet-limit len) (ltb (length s) len) e in
     let q = or-false (ltb len trailer-length) (ltb sheet-limit len) (p .0) in
     record { long = ltb-false len trailer-length (q .0); short = ltb-false sheet-limit len (q .1); within = ltb-false (length s) len (p .1) }
 
-pub sized : (s : List ℕ) (len : ℕ) → Sized s len → wrong-length s len ≡ false
-sized s len h = rw (le-ltb len trailer-length (h .long), le-ltb sheet-limit len (h .short), le-ltb (length s) len (h .within))
+pub passes-length : (s : List ℕ) (len : ℕ) → GoodLength s len → is-bad-length s len ≡ false
+passes-length s len h = rw (le-ltb len trailer-length (h .long), le-ltb sheet-limit len (h .short), le-ltb (length s) len (h .within))
 
 -- ---- the trailer
 
--- its record length, its zero bytes and its letters are right
-pub record Marked (z : Trailer) : Type 0 where
-  pub length-is : z .length ≡ record-length
-  pub zeros-are : z .zeros ≡ 0
-  pub letters-are : z .letters ≡ letters
-
-pub marks-passed : (z : Trailer) → wrong-marks z ≡ false → Marked z
-marks-passed z e =
+pub good-marks : (z : Trailer) → has-bad-marks z ≡ false → GoodMarks z
+good-marks z e =
     let a = or-false (not (eqb (z .length) record-length) || not (eqb (z .zeros) 0)) (not (eqb (z .letters) letters)) e in
     let b = or-false (not (eqb (z .length) record-length)) (not (eqb (z .zeros) 0)) (a .0) in
     record {
@@ -51,33 +40,21 @@ marks-passed z e =
       letters-are = eqb-true (z .letters) letters (not-false _ (a .1));
     }
 
-pub marked : (z : Trailer) → Marked z → wrong-marks z ≡ false
-marked z h = rw (h .length-is, h .zeros-are, h .letters-are)
+pub passes-marks : (z : Trailer) → GoodMarks z → has-bad-marks z ≡ false
+passes-marks z h = rw (h .length-is, h .zeros-are, h .letters-are)
 
--- its distance is that of its records, which lie within a sheet of len bytes
-pub record Located (len : ℕ) (z : Trailer) : Type 0 where
-  pub distance-is : z .distance ≡ record-length * z .count
-  pub near : z .distance ≤ len - trailer-length
-
-pub place-passed : (len : ℕ) (z : Trailer) → wrong-distance len z ≡ false → Located len z
-place-passed len z e =
+pub good-distance : (len : ℕ) (z : Trailer) → is-bad-distance len z ≡ false → GoodDistance len z
+good-distance len z e =
     let d = or-false (not (eqb (z .distance) (record-length * z .count))) (ltb (len - trailer-length) (z .distance)) e in
     record {
       distance-is = eqb-true (z .distance) (record-length * z .count) (not-false _ (d .0));
       near = ltb-false (len - trailer-length) (z .distance) (d .1);
     }
 
-pub located : (len : ℕ) (z : Trailer) → Located len z → wrong-distance len z ≡ false
-located len z h = rw (eq-eqb (z .distance) (record-length * z .count) (h .distance-is), le-ltb (len - trailer-length) (z .distance) (h .near))
+pub passes-distance : (len : ℕ) (z : Trailer) → GoodDistance len z → is-bad-distance len z ≡ false
+passes-distance len z h = rw (eq-eqb (z .distance) (record-length * z .count) (h .distance-is), le-ltb (len - trailer-length) (z .distance) (h .near))
 
 -- ---- the frame
-
--- a length, marks and a distance that are right, and the count c
-pub record Sound (s : List ℕ) (len c : ℕ) : Type 0 where
-  pub size : Sized s len
-  pub marks : Marked (trailer-at s (len - trailer-length))
-  pub place : Located len (trailer-at s (len - trailer-length))
-  pub count : trailer-at s (len - trailer-length) .count ≡ c
 
 -- an accepted outcome past a test is none of its refusals
 pub past : {A : Type 0} (b : Bool) (k : ℕ) (o : Outcome A) (a : A) → cond b (refused k) o ≡ accepted a → (b ≡ false) × (o ≡ accepted a)
@@ -85,25 +62,25 @@ past true k o a e = absurd (accepted-not-refused (sym e))
 past false k o a e = (refl, e)
 
 -- a frame is accepted exactly where it is sound
-pub framed-sound : (s : List ℕ) (len c : ℕ) → framed s len ≡ accepted c → Sound s len c
+pub framed-good : (s : List ℕ) (len c : ℕ) → framed s len ≡ accepted c → GoodFrame s len c
 unfolding framed stated
-framed-sound s len c e =
+framed-good s len c e =
     let z = trailer-at s (len - trailer-length) in
-    let p = past (wrong-length s len) bad-length _ c e in
-    let q = past (wrong-marks z) bad-trailer _ c (p .1) in
-    let r = past (wrong-distance len z) bad-distance _ c (q .1) in
-    record { size = size-passed s len (p .0); marks = marks-passed z (q .0); place = place-passed len z (r .0); count = accepted-same (r .1) }
+    let p = past (is-bad-length s len) bad-length _ c e in
+    let q = past (has-bad-marks z) bad-trailer _ c (p .1) in
+    let r = past (is-bad-distance len z) bad-distance _ c (q .1) in
+    record { size = good-length s len (p .0); marks = good-marks z (q .0); distance = good-distance len z (r .0); count = accepted-same (r .1) }
 
-pub framed-when : (s : List ℕ) (len c : ℕ) → Sound s len c → framed s len ≡ accepted c
+pub framed-when : (s : List ℕ) (len c : ℕ) → GoodFrame s len c → framed s len ≡ accepted c
 unfolding framed stated
 framed-when s len c h =
     let z = trailer-at s (len - trailer-length) in
-    rw (sized s len (h .size), marked z (h .marks), located len z (h .place), h .count)
+    rw (passes-length s len (h .size), passes-marks z (h .marks), passes-distance len z (h .distance), h .count)
 
 -- where the records of an accepted frame stand
-pub framed-known : (s : List ℕ) (len c : ℕ) → framed s len ≡ accepted c → Framed s len c
-framed-known s len c e =
-    let f = framed-sound s len c e in
+pub framed-holds : (s : List ℕ) (len c : ℕ) → framed s len ≡ accepted c → HoldsRecords s len c
+framed-holds s len c e =
+    let f = framed-good s len c e in
     let z = f .size in
-    let n = f .place in
+    let n = f .distance in
     record { within = z .within; short = z .short; long = omega (arith, f .count) }

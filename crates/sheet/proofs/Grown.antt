@@ -1,4 +1,5 @@
--- The sheet that an accepted insert leaves, record by record. `insert-accepted` says it whole. Assumes nothing.
+-- The sheet that an accepted insert leaves, record by record (`insert-accepted`), and the order of records that are fetched
+-- (`fetched-ascending`). Assumes nothing.
 use mathlib.Core.Path.{_≡_, sym, ap, _∙_}
 use mathlib.Core.List.{List, [], _++_, append-assoc}
 use Prim.Native.Nat.{ℕ, suc, _+_, _^_, _≤_, _<_}
@@ -10,37 +11,23 @@ use borrow.Author.Tests.{ltb-true, ltb-false}
 use Rattle.integers.proofs.Tests.{cases}
 use Rattle.octagon.specs.Outcome.{accepted}
 use Rattle.octagon.proofs.Outcomes.{accepted-same, accepted-not-refused}
-use Rattle.records.specs.Rows.{joined, key-width, key, place, placed}
-use Rattle.records.proofs.Rows.{length-records, length-joined, place-le, mul-more}
-use Rattle.records.proofs.Order.{placed-before, placed-here, placed-after, rising-step}
+use Rattle.records.specs.Rows.{joined, key-width, key, rank, put-in-order}
+use Rattle.records.proofs.Rows.{length-records, length-joined, rank-le, mul-more}
+use Rattle.records.proofs.Order.{put-in-order-before, put-in-order-here, put-in-order-after, ascending-step}
 use Rattle.sheet.specs.declared.Record.{Record}
 use Rattle.sheet.specs.Layout.{record-length, trailer, encoded, decoded}
 use Rattle.sheet.specs.Checking.{first, rows, checked, fetched}
-use Rattle.sheet.specs.Writing.{insertion, after-insert}
+use Rattle.sheet.specs.Writing.{insertion, after-insert, GrownSheet}
 use Rattle.sheet.proofs.RecordBytes.{decoded-encoded, key-decoded}
 use Rattle.sheet.proofs.Checks.{checked-when, checked-good, fetched-row, fetched-none}
 use Rattle.sheet.proofs.TrailerBytes.{length-trailer}
 use Rattle.sheet.proofs.Sheets.{sheet, sheet-good, sheet-rows}
-use Rattle.sheet.proofs.Insertion.{Taken, insertion-taken, insert-leaves, new-fits, new-front, new-each, new-count, new-length, new-rising}
-
--- s′ is the sheet s of len bytes and c records with the record r inserted
-pub record Grown (s s′ : List ℕ) (len c : ℕ) (r : Record) : Type 0 where
-  -- it checks, with one record more
-  pub checks : checked s′ (len + record-length) ≡ accepted (c + 1)
-  -- the new record is fetched at its place, the old ones before and after it in their order
-  pub at : ℕ
-  pub before : (k : ℕ) → k < at → fetched s′ (len + record-length) k ≡ fetched s len k
-  pub here : fetched s′ (len + record-length) at ≡ accepted r
-  pub after : (k : ℕ) → at ≤ k → fetched s′ (len + record-length) (suc k) ≡ fetched s len k
-  -- heading and bytes past the new length keep their values
-  pub heading : take (first len c) s′ ≡ take (first len c) s
-  pub past : drop (len + record-length) s′ ≡ drop (len + record-length) s
-  pub same-length : length s′ ≡ length s
+use Rattle.sheet.proofs.Insertion.{Taken, insertion-taken, insert-leaves, new-fits, new-front, new-each, new-count, new-length, new-ascending}
 
 module _ (s : List ℕ) (len : ℕ) (r : Record) (c : ℕ) (n : r .number < 256 ^ key-width) (t : Taken s len r c) where
   -- the new records and the new sheet
   abbrev new-rows : List (List ℕ)
-  new-rows = placed (encoded r) (rows s len c)
+  new-rows = put-in-order (encoded r) (rows s len c)
 
   abbrev new-sheet : List ℕ
   new-sheet = sheet (take (first len c) s) new-rows (c + 1) (drop (len + record-length) s)
@@ -49,7 +36,7 @@ module _ (s : List ℕ) (len : ℕ) (r : Record) (c : ℕ) (n : r .number < 256 
   new-checks =
       checked-when new-sheet (len + record-length) (c + 1)
       (sheet-good (take (first len c) s) new-rows (c + 1) (drop (len + record-length) s) (len + record-length)
-      (new-each s len r c n t) (new-count s len r c n t) (new-length s len r c n t) (t .admitted .short) (new-rising s len r c n t))
+      (new-each s len r c n t) (new-count s len r c n t) (new-length s len r c n t) (t .admitted .short) (new-ascending s len r c n t))
 
   rows-are : rows new-sheet (len + record-length) (c + 1) ≡ new-rows
   rows-are =
@@ -62,29 +49,29 @@ module _ (s : List ℕ) (len : ℕ) (r : Record) (c : ℕ) (n : r .number < 256 
       fetched-row new-sheet (len + record-length) (c + 1) k new-checks h
       ∙ ap (λ (x : List (List ℕ)). accepted (decoded (getD x k []))) rows-are
 
-  place-in : place (key (encoded r)) (rows s len c) ≤ c
-  place-in = omega (arith, place-le (key (encoded r)) (rows s len c), length-records record-length s (first len c) c)
+  rank-in : rank (key (encoded r)) (rows s len c) ≤ c
+  rank-in = omega (arith, rank-le (key (encoded r)) (rows s len c), length-records record-length s (first len c) c)
 
-  new-before : (k : ℕ) → k < place (key (encoded r)) (rows s len c) → fetched new-sheet (len + record-length) k ≡ fetched s len k
+  new-before : (k : ℕ) → k < rank (key (encoded r)) (rows s len c) → fetched new-sheet (len + record-length) k ≡ fetched s len k
   new-before k h =
-      let i = place-in in
+      let i = rank-in in
       new-row k (omega arith)
-      ∙ ap (λ (x : List ℕ). accepted (decoded x)) (placed-before (encoded r) (rows s len c) k h)
+      ∙ ap (λ (x : List ℕ). accepted (decoded x)) (put-in-order-before (encoded r) (rows s len c) k h)
       ∙ sym (fetched-row s len c k (t .sheet-is) (omega arith))
 
-  new-here : fetched new-sheet (len + record-length) (place (key (encoded r)) (rows s len c)) ≡ accepted r
+  new-here : fetched new-sheet (len + record-length) (rank (key (encoded r)) (rows s len c)) ≡ accepted r
   new-here =
-      let i = place-in in
-      new-row (place (key (encoded r)) (rows s len c)) (omega arith)
-      ∙ ap (λ (x : List ℕ). accepted (decoded x)) (placed-here (encoded r) (rows s len c))
+      let i = rank-in in
+      new-row (rank (key (encoded r)) (rows s len c)) (omega arith)
+      ∙ ap (λ (x : List ℕ). accepted (decoded x)) (put-in-order-here (encoded r) (rows s len c))
       ∙ ap accepted (decoded-encoded r n (new-fits s len r c n t))
 
-  new-after : (k : ℕ) → place (key (encoded r)) (rows s len c) ≤ k → fetched new-sheet (len + record-length) (suc k) ≡ fetched s len k
+  new-after : (k : ℕ) → rank (key (encoded r)) (rows s len c) ≤ k → fetched new-sheet (len + record-length) (suc k) ≡ fetched s len k
   new-after k h =
       cases (ltb k c)
       (λ b. let l = ltb-true k c b in
       new-row (suc k) (omega arith)
-      ∙ ap (λ (x : List ℕ). accepted (decoded x)) (placed-after (encoded r) (rows s len c) k h)
+      ∙ ap (λ (x : List ℕ). accepted (decoded x)) (put-in-order-after (encoded r) (rows s len c) k h)
       ∙ sym (fetched-row s len c k (t .sheet-is) l))
       (λ b. let l = ltb-false k c b in
       fetched-none new-sheet (len + record-length) (c + 1) (suc k) new-checks (omega arith) ∙ sym (fetched-none s len c k (t .sheet-is) l))
@@ -119,12 +106,12 @@ module _ (s : List ℕ) (len : ℕ) (r : Record) (c : ℕ) (n : r .number < 256 
 -- "The old records and the new one then stand by rising number, with the trailer brought up to date .. Heading and bytes past the
 -- new length keep their values"
 pub insert-accepted : (s : List ℕ) (len : ℕ) (r : Record) (c : ℕ) → r .number < 256 ^ key-width → insertion s len r ≡ accepted c
-    → Grown s (after-insert s len r) len c r
+    → GrownSheet s (after-insert s len r) len c r
 insert-accepted s len r c n e =
     let t = insertion-taken s len r c e in
     rw (insert-leaves s len r c e) (record {
       checks = new-checks s len r c n t;
-      at = place (key (encoded r)) (rows s len c);
+      at = rank (key (encoded r)) (rows s len c);
       before = new-before s len r c n t;
       here = new-here s len r c n t;
       after = new-after s len r c n t;
@@ -134,11 +121,11 @@ insert-accepted s len r c n e =
     })
 
 -- of any sheet that checks, and so of this one, the records that are fetched stand by rising number
-pub fetched-rising : (s : List ℕ) (len c k : ℕ) (a b : Record) → checked s len ≡ accepted c → fetched s len k ≡ accepted a → fetched s len (suc k) ≡ accepted b
+pub fetched-ascending : (s : List ℕ) (len c k : ℕ) (a b : Record) → checked s len ≡ accepted c → fetched s len k ≡ accepted a → fetched s len (suc k) ≡ accepted b
     → a .number < b .number
-fetched-rising s len c k a b e p q =
+fetched-ascending s len c k a b e p q =
     let h : suc k < c = cases (ltb (suc k) c) (ltb-true (suc k) c) (λ f. absurd (accepted-not-refused (sym q ∙ fetched-none s len c (suc k) e (ltb-false (suc k) c f)))) in
     let x : a ≡ decoded (getD (rows s len c) k []) = accepted-same (sym p ∙ fetched-row s len c k e (omega arith)) in
     let y : b ≡ decoded (getD (rows s len c) (suc k) []) = accepted-same (sym q ∙ fetched-row s len c (suc k) e h) in
-    let u = rising-step k (omega (arith, length-records record-length s (first len c) c)) (checked-good s len c e .records) in
+    let u = ascending-step k (omega (arith, length-records record-length s (first len c) c)) (checked-good s len c e .records) in
     rw (x, y, ← key-decoded (getD (rows s len c) k []), ← key-decoded (getD (rows s len c) (suc k) [])) u

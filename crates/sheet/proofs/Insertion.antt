@@ -1,38 +1,33 @@
--- Insert a plot, in the words of document 01: what is refused changes nothing, and what is accepted leaves the old records and the
--- new one by rising number, with the trailer brought up to date, the heading and the bytes past the new length as they were.
--- Assumes nothing.
-use mathlib.Core.Path.{_≡_, refl, sym, ap, _∙_}
+-- A refused insert leaves every byte (`insert-refused`); of an accepted one, what was tested, what the buffer holds then, and the
+-- parts of that sheet. Assumes nothing.
+use mathlib.Core.Path.{_≡_, ap, _∙_}
 use mathlib.Core.List.{List}
 use Prim.Native.Nat.{ℕ, _+_, _*_, _^_, _<_}
 use native.Mathlib.Omega.{arith}
 use lib.ListN.{length, take, drop}
 use lib.Seq.{length-take-le}
 use Rattle.octagon.specs.declared.Octagon.{Octagon}
-use Rattle.octagon.specs.Outcome.{Outcome, accepted, refused, then}
-use Rattle.octagon.proofs.Outcomes.{accepted-not-refused}
+use Rattle.octagon.specs.Outcome.{accepted, refused}
+use Rattle.octagon.proofs.Outcomes.{then-accepted, map-refused}
 use Rattle.outline.specs.Tracing.{traced}
-use Rattle.records.specs.Rows.{key-width, key, Rising, placed}
-use Rattle.records.proofs.Rows.{Each, each-records, each-placed, length-records, length-placed, mul-more}
-use Rattle.records.proofs.Order.{rising-placed}
+use Rattle.records.specs.Rows.{key-width, key, Ascending, put-in-order}
+use Rattle.records.proofs.Rows.{Each, each-records, each-put-in-order, length-records, length-put-in-order, mul-more}
+use Rattle.records.proofs.Order.{ascending-put-in-order}
 use Rattle.sheet.specs.declared.Record.{Record}
 use Rattle.sheet.specs.Layout.{record-length, trailer-length, encoded, Fits}
-use Rattle.sheet.specs.Checking.{Framed, first, rows, checked}
-use Rattle.sheet.specs.Writing.{left, vetted, insertion, inserted, grown, after-insert}
+use Rattle.sheet.specs.Checking.{HoldsRecords, first, rows, checked}
+use Rattle.sheet.specs.Cases.{HasOctagon}
+use Rattle.sheet.specs.Writing.{vetted, insertion, inserted, grown, after-insert}
 use Rattle.sheet.proofs.RecordBytes.{length-encoded, decoded-encoded, key-encoded}
 use Rattle.sheet.proofs.Outlines.{accepted-fits}
-use Rattle.sheet.proofs.Surveys.{Traced}
-use Rattle.sheet.proofs.Checks.{checked-good, checked-known}
+use Rattle.sheet.proofs.Checks.{checked-good, checked-holds}
 use Rattle.sheet.proofs.Sheets.{sheet}
 use Rattle.sheet.proofs.Inserts.{Admitted, vetted-passed}
 
 -- "A refused call alters nothing it was lent": every byte is as it was
 pub insert-refused : (s : List ℕ) (len : ℕ) (r : Record) (k : ℕ) → inserted s len r ≡ refused k → after-insert s len r ≡ s
 unfolding inserted after-insert
-insert-refused s len r k e = go (insertion s len r) e
-  where
-    go : (o : Outcome ℕ) → then o (λ _. accepted (len + record-length)) ≡ refused k → left s o (λ c. grown s len c (encoded r)) ≡ s
-    go (accepted c) q = absurd (accepted-not-refused q)
-    go (refused m) q = refl
+insert-refused s len r k e = rw (map-refused (insertion s len r) (λ _. len + record-length) k .0 e)
 
 -- ---- what is accepted
 
@@ -44,26 +39,25 @@ pub record Taken (s : List ℕ) (len : ℕ) (r : Record) (c : ℕ) : Type 0 wher
 
 pub insertion-taken : (s : List ℕ) (len : ℕ) (r : Record) (c : ℕ) → insertion s len r ≡ accepted c → Taken s len r c
 unfolding insertion
-insertion-taken s len r c e = go (traced (r .outline)) refl e
-  where
-    go : (o : Outcome Octagon) → traced (r .outline) ≡ o → then o (λ _. vetted s len (r .number)) ≡ accepted c → Taken s len r c
-    go (refused k) q f = absurd (accepted-not-refused (sym f))
-    go (accepted o) q f = let p = vetted-passed s len (r .number) c f in record { outline = (o, q); sheet-is = p .0; admitted = p .1 }
+insertion-taken s len r c e =
+    let t = then-accepted (traced (r .outline)) (λ _. vetted s len (r .number)) c e in
+    let p = vetted-passed s len (r .number) c (t .second) in
+    record { outline = (t .between, t .first); sheet-is = p .0; admitted = p .1 }
 
 -- the buffer is then the heading, the records with the new one, their trailer, and what followed
 pub insert-leaves : (s : List ℕ) (len : ℕ) (r : Record) (c : ℕ) → insertion s len r ≡ accepted c
-    → after-insert s len r ≡ sheet (take (first len c) s) (placed (encoded r) (rows s len c)) (c + 1) (drop (len + record-length) s)
+    → after-insert s len r ≡ sheet (take (first len c) s) (put-in-order (encoded r) (rows s len c)) (c + 1) (drop (len + record-length) s)
 unfolding after-insert grown
 insert-leaves s len r c e = rw e
 
 module _ (s : List ℕ) (len : ℕ) (r : Record) (c : ℕ) (n : r .number < 256 ^ key-width) (t : Taken s len r c) where
-  pub known : Framed s len c
-  known = checked-known s len c (t .sheet-is)
+  pub known : HoldsRecords s len c
+  known = checked-holds s len c (t .sheet-is)
 
   pub new-fits : Fits (r .outline)
   new-fits = accepted-fits (r .outline) (t .outline .0) (t .outline .1)
 
-  new-traced : Traced (encoded r)
+  new-traced : HasOctagon (encoded r)
   new-traced = (t .outline .0, ap (λ (x : Record). traced (x .outline)) (decoded-encoded r n new-fits) ∙ t .outline .1)
 
   new-key : key (encoded r) ≡ r .number
@@ -73,16 +67,16 @@ module _ (s : List ℕ) (len : ℕ) (r : Record) (c : ℕ) (n : r .number < 256 
   pub new-front : length (take (first len c) s) ≡ first len c
   new-front = length-take-le (first len c) s (omega (arith, known))
 
-  pub new-each : Each record-length (placed (encoded r) (rows s len c))
-  new-each = each-placed (encoded r) (length-encoded r) (each-records record-length s (first len c) c (omega (arith, known)))
+  pub new-each : Each record-length (put-in-order (encoded r) (rows s len c))
+  new-each = each-put-in-order (encoded r) (length-encoded r) (each-records record-length s (first len c) c (omega (arith, known)))
 
-  pub new-count : length (placed (encoded r) (rows s len c)) ≡ c + 1
-  new-count = length-placed (encoded r) (rows s len c) ∙ omega (arith, length-records record-length s (first len c) c)
+  pub new-count : length (put-in-order (encoded r) (rows s len c)) ≡ c + 1
+  new-count = length-put-in-order (encoded r) (rows s len c) ∙ omega (arith, length-records record-length s (first len c) c)
 
   pub new-length : len + record-length ≡ length (take (first len c) s) + record-length * (c + 1) + trailer-length
   new-length = omega (arith, known, new-front, mul-more record-length c)
 
-  pub new-rising : Rising Traced 0 (placed (encoded r) (rows s len c))
-  new-rising =
-      rising-placed (encoded r) (omega (arith, new-key, t .admitted)) new-traced (rw new-key (t .admitted .new))
+  pub new-ascending : Ascending HasOctagon 0 (put-in-order (encoded r) (rows s len c))
+  new-ascending =
+      ascending-put-in-order (encoded r) (omega (arith, new-key, t .admitted)) new-traced (rw new-key (t .admitted .new))
       (checked-good s len c (t .sheet-is) .records)

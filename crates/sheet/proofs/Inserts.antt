@@ -1,4 +1,5 @@
--- An insert step by step: who is admitted, and the bytes that one more record leaves. Assumes nothing.
+-- An insert step by step: which numbers and lengths are admitted, the order of the refusals, and the bytes that one more record
+-- leaves. Assumes nothing.
 use mathlib.Core.Path.{_≡_, refl, sym, ap, _∙_}
 use mathlib.Core.Bool.{true, false, _||_}
 use mathlib.Core.List.{List, _++_}
@@ -9,19 +10,19 @@ use lib.ListN.{length, take}
 use lib.Dec.{ltb, eqb}
 use borrow.Author.Tests.{ltb-false, eqb-false}
 use Rattle.octagon.specs.declared.Octagon.{Octagon}
-use Rattle.octagon.specs.Outcome.{Outcome, accepted, refused, then}
-use Rattle.octagon.proofs.Outcomes.{accepted-same, accepted-not-refused}
+use Rattle.octagon.specs.Outcome.{accepted, refused, then, left}
+use Rattle.octagon.proofs.Outcomes.{accepted-same, then-accepted}
 use Rattle.outline.specs.Tracing.{traced}
-use Rattle.records.specs.Parts.{between, splice, shifted, opened}
-use Rattle.records.specs.Rows.{joined, key, present, place, placed}
-use Rattle.records.proofs.Moves.{open-is, close-is}
-use Rattle.records.proofs.Rows.{place-le, length-records, placed-bytes}
+use Rattle.records.specs.Parts.{between, splice, shifted, put-in}
+use Rattle.records.specs.Rows.{joined, key, present, rank, put-in-order}
+use Rattle.records.proofs.Moves.{put-in-is, put-after}
+use Rattle.records.proofs.Rows.{rank-le, length-records, bytes-put-in-order}
 use Rattle.records.proofs.Order.{or-false}
 use Rattle.sheet.specs.declared.Record.{Record}
 use Rattle.sheet.specs.Layout.{sheet-limit, record-length, trailer-length, trailer, encoded}
 use Rattle.sheet.specs.Answers.{bad-number, no-room}
-use Rattle.sheet.specs.Checking.{Framed, first, rows, checked}
-use Rattle.sheet.specs.Writing.{left, admitted, vetted, insertion, inserted, grown, after-insert}
+use Rattle.sheet.specs.Checking.{HoldsRecords, first, rows, checked}
+use Rattle.sheet.specs.Writing.{admitted, vetted, insertion, inserted, grown, after-insert}
 use Rattle.sheet.proofs.Frames.{past}
 use Rattle.sheet.proofs.TrailerBytes.{length-trailer}
 
@@ -77,13 +78,11 @@ unfolding vetted
 vet-admit s len v e = rw e
 
 pub vetted-passed : (s : List ℕ) (len v c : ℕ) → vetted s len v ≡ accepted c → (checked s len ≡ accepted c) × Admitted s len v c
-vetted-passed s len v c e = go (checked s len) refl
-  where
-    go : (o : Outcome ℕ) → checked s len ≡ o → (checked s len ≡ accepted c) × Admitted s len v c
-    go (refused k) q = absurd (accepted-not-refused (sym e ∙ vet-check s len v q))
-    go (accepted n) q =
-        let p = admitted-passed s len v n c (sym (vet-admit s len v q) ∙ e) in
-        (q ∙ ap accepted (sym (p .1)), rw (← p .1) at (p .0))
+unfolding vetted
+vetted-passed s len v c e =
+    let t = then-accepted (checked s len) (admitted s len v) c e in
+    let p = admitted-passed s len v (t .between) c (t .second) in
+    (t .first ∙ ap accepted (sym (p .1)), rw (← p .1) at (p .0))
 
 -- the outline is refused, and nothing is touched
 pub insert-outline : {k : ℕ} (s : List ℕ) (len : ℕ) (r : Record) → traced (r .outline) ≡ refused k → (refused k ≡ inserted s len r) × (s ≡ after-insert s len r)
@@ -100,29 +99,29 @@ insert-sheet s len r e = rw e (refl, refl)
 -- ---- what is left
 
 -- the place of a number is within the records
-pub place-within : (s : List ℕ) (len c v : ℕ) → record-length * place v (rows s len c) ≤ record-length * c
-place-within s len c v =
-    mul-le-mul-left record-length (omega (arith, place-le v (rows s len c), length-records record-length s (first len c) c))
+pub rank-within : (s : List ℕ) (len c v : ℕ) → record-length * rank v (rows s len c) ≤ record-length * c
+rank-within s len c v =
+    mul-le-mul-left record-length (omega (arith, rank-le v (rows s len c), length-records record-length s (first len c) c))
 
 -- the bytes from the place on moved up, the record and the trailer written
-pub grown-is : (s : List ℕ) (len c : ℕ) (b : List ℕ) → Framed s len c → len + record-length ≤ length s → length b ≡ record-length
-    → let at = first len c + record-length * place (key b) (rows s len c) in
+pub grown-is : (s : List ℕ) (len c : ℕ) (b : List ℕ) → HoldsRecords s len c → len + record-length ≤ length s → length b ≡ record-length
+    → let at = first len c + record-length * rank (key b) (rows s len c) in
     let end = len - trailer-length in
     splice (splice (shifted s at end record-length) at b) (end + record-length) (trailer (c + 1)) ≡ grown s len c b
 unfolding grown
 grown-is s len c b f h l =
-    let at = first len c + record-length * place (key b) (rows s len c) in
+    let at = first len c + record-length * rank (key b) (rows s len c) in
     let end = len - trailer-length in
-    let w = place-within s len c (key b) in
+    let w = rank-within s len c (key b) in
     let e : first len c + record-length * c ≡ end = omega (arith, f .long) in
     let d : end + record-length + trailer-length ≡ len + record-length = omega (arith, f .long) in
     let z = length-trailer (c + 1) in
-    let o : splice (shifted s at end record-length) at b ≡ opened s at end b =
-    ap (λ (x : ℕ). splice (shifted s at end x) at b) (sym l) ∙ open-is s at end b (omega (arith, f .long)) (omega (arith, f .within)) in
-    let p : take at s ++ (b ++ between s at end) ≡ take (first len c) s ++ joined (placed b (rows s len c)) =
-    ap (λ (x : ℕ). take at s ++ (b ++ between s at x)) (sym e) ∙ placed-bytes record-length s (first len c) c b in
-    let q = close-is s at end b (trailer (c + 1)) (omega (arith, f .long)) (omega (arith, f .long)) in
+    let o : splice (shifted s at end record-length) at b ≡ put-in s at end b =
+    ap (λ (x : ℕ). splice (shifted s at end x) at b) (sym l) ∙ put-in-is s at end b (omega (arith, f .long)) (omega (arith, f .within)) in
+    let p : take at s ++ (b ++ between s at end) ≡ take (first len c) s ++ joined (put-in-order b (rows s len c)) =
+    ap (λ (x : ℕ). take at s ++ (b ++ between s at x)) (sym e) ∙ bytes-put-in-order record-length s (first len c) c b in
+    let q = put-after s at end b (trailer (c + 1)) (omega (arith, f .long)) (omega (arith, f .long)) in
     ap (λ (x : List ℕ). splice x (end + record-length) (trailer (c + 1))) o
-    ∙ ap (λ (x : ℕ). splice (opened s at end b) (end + x) (trailer (c + 1))) (sym l)
+    ∙ ap (λ (x : ℕ). splice (put-in s at end b) (end + x) (trailer (c + 1))) (sym l)
     ∙ q
     ∙ rw (l, z, d, p)

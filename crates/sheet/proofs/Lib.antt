@@ -10,6 +10,7 @@ pub mod Starts
 pub mod Inserts
 pub mod Outlines
 pub mod CheckCases
+pub mod ReadCases
 pub mod Insertion
 pub mod Grown
 pub mod Computed

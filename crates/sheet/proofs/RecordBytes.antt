@@ -5,16 +5,16 @@ use Prim.Native.Nat.{ℕ, _+_, _^_, _<_}
 use native.Mathlib.Omega.{arith}
 use lib.ListN.{length, take, drop, getD}
 use lib.Seq.{take-all, drop-drop}
-use Rattle.records.specs.Numbers.{number, twos, total, packed, unpacked}
+use Rattle.records.specs.Numbers.{AreBytes, number, twos, total-width, packed, unpacked}
 use Rattle.records.specs.Parts.{part}
 use Rattle.records.specs.Rows.{key-width, key}
-use Rattle.records.proofs.Numbers.{Bytes, drop-bytes, number-take, signed-twos, twos-below, twos-signed}
+use Rattle.records.proofs.Numbers.{drop-bytes, number-take, signed-twos, twos-below, twos-signed}
 use Rattle.records.proofs.Fields.{Fit, none, more, length-packed, unpacked-all, packed-unpacked, unpacked-take, unpacked-fit, fit-at}
 use Rattle.sheet.specs.declared.Record.{Record}
 use Rattle.sheet.specs.Layout.{record-length, start-width, layout, values, outline-from, record-from, encoded, decoded, Fits}
 
 -- the fields of a record take the record length
-pub layout-length : total layout ≡ record-length
+pub layout-length : total-width layout ≡ record-length
 layout-length = refl
 
 pub length-encoded : (r : Record) → length (encoded r) ≡ record-length
@@ -32,15 +32,15 @@ decoded-at s at = ap record-from (unpacked-take layout (drop at s) record-length
 pub after-number : (s : List ℕ) (at : ℕ) → unpacked (drop 1 layout) (drop (at + key-width) s) ≡ drop 1 (unpacked layout (drop at s))
 after-number s at = ap (unpacked (drop 1 layout)) (sym (drop-drop key-width at s))
 
-pub read-outline : (s : List ℕ) (at : ℕ) → outline-from (drop 1 (unpacked layout (drop at s))) ≡ decoded (part s at record-length) .outline
-read-outline s at = ap (λ (r : Record). r .outline) (sym (decoded-at s at))
+pub outline-decoded : (s : List ℕ) (at : ℕ) → outline-from (drop 1 (unpacked layout (drop at s))) ≡ decoded (part s at record-length) .outline
+outline-decoded s at = ap (λ (r : Record). r .outline) (sym (decoded-at s at))
 
 -- its plot number
-pub read-number : (s : List ℕ) (at : ℕ) → number (part s at key-width) ≡ decoded (part s at record-length) .number
-read-number s at = ap (λ (r : Record). r .number) (sym (decoded-at s at))
+pub number-decoded : (s : List ℕ) (at : ℕ) → number (part s at key-width) ≡ decoded (part s at record-length) .number
+number-decoded s at = ap (λ (r : Record). r .number) (sym (decoded-at s at))
 
 -- a field that was read fits its width
-pub field-below : (s : List ℕ) (at k : ℕ) → Bytes s → k < length layout → getD (unpacked layout (drop at s)) k 0 < 256 ^ getD layout k 0
+pub field-below : (s : List ℕ) (at k : ℕ) → AreBytes s → k < length layout → getD (unpacked layout (drop at s)) k 0 < 256 ^ getD layout k 0
 field-below s at k h l = fit-at k l (unpacked-fit layout (drop at s) (drop-bytes at s h))
 
 -- ---- writing
@@ -67,7 +67,7 @@ decoded-encoded r n f =
     ap record-from (unpacked-all (values-fit r n f)) ∙ simp (signed-twos 1 (r .outline .i) (f .fits-i), signed-twos 1 (r .outline .j) (f .fits-j))
 
 -- and the bytes of a record that was read are those that were there
-values-again : (b : List ℕ) → Bytes b → values (decoded b) ≡ unpacked layout b
+values-again : (b : List ℕ) → AreBytes b → values (decoded b) ≡ unpacked layout b
 unfolding decoded
 values-again b h =
     rw (
@@ -75,7 +75,7 @@ values-again b h =
       twos-signed 1 (number (take 2 (drop 2 (drop 4 b)))) (number-take 2 (drop 2 (drop 4 b)) (drop-bytes 2 (drop 4 b) (drop-bytes 4 b h))),
     )
 
-pub encoded-decoded : (b : List ℕ) → Bytes b → length b ≡ record-length → encoded (decoded b) ≡ b
+pub encoded-decoded : (b : List ℕ) → AreBytes b → length b ≡ record-length → encoded (decoded b) ≡ b
 unfolding encoded
 encoded-decoded b h l =
     ap (packed layout) (values-again b h) ∙ packed-unpacked layout b h (omega arith) ∙ take-all record-length b (omega arith)

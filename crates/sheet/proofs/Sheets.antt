@@ -5,12 +5,12 @@ use mathlib.Core.List.{List, _++_, append-assoc}
 use Prim.Native.Nat.{ℕ, _+_, _-_, _*_, _^_, _≤_, _<_}
 use native.Mathlib.Omega.{arith}
 use lib.ListN.{length, length-append}
-use Rattle.records.specs.Rows.{records, joined, Rising}
+use Rattle.records.specs.Rows.{records, joined, Ascending}
 use Rattle.records.proofs.Rows.{Each, length-joined, records-joined}
 use Rattle.sheet.specs.Layout.{sheet-limit, record-length, trailer-length, trailer, trailer-values, trailer-from, trailer-at}
 use Rattle.sheet.specs.Checking.{first, rows}
-use Rattle.sheet.proofs.Frames.{Sound, framed-when}
-use Rattle.sheet.proofs.Surveys.{Traced}
+use Rattle.sheet.specs.Cases.{GoodFrame, HasOctagon}
+use Rattle.sheet.proofs.Frames.{framed-when}
 use Rattle.sheet.proofs.Checks.{Good}
 use Rattle.sheet.proofs.TrailerBytes.{length-trailer, trailer-again}
 
@@ -31,14 +31,14 @@ module _ (h : List ℕ) (rs : List (List ℕ)) (c : ℕ) (d : List ℕ) (len : �
   again : record-length * c < 256 ^ 4 → trailer-at (sheet h rs c d) (len - trailer-length) ≡ trailer-from (trailer-values c)
   again k = rw (append-assoc (h ++ joined rs) (trailer c) d) (trailer-again (h ++ joined rs) d (len - trailer-length) c front k)
 
-  pub sheet-sound : len ≤ sheet-limit → Sound (sheet h rs c d) len c
-  sheet-sound k =
+  pub sheet-frame : len ≤ sheet-limit → GoodFrame (sheet h rs c d) len c
+  sheet-frame k =
       let z = again (omega arith) in
       let w = whole in
       record {
         size = record { long = omega arith; short = k; within = omega arith };
         marks = rw z (record { length-is = refl; zeros-are = refl; letters-are = refl });
-        place = rw z (record { distance-is = refl; near = omega arith });
+        distance = rw z (record { distance-is = refl; near = omega arith });
         count = rw z;
       }
 
@@ -51,5 +51,5 @@ module _ (h : List ℕ) (rs : List (List ℕ)) (c : ℕ) (d : List ℕ) (len : �
       ∙ ap (λ (x : List ℕ). records record-length x (length h) (length rs)) f
       ∙ records-joined h (trailer c ++ d) (length h) refl m
 
-  pub sheet-good : len ≤ sheet-limit → Rising Traced 0 rs → Good (sheet h rs c d) len c
-  sheet-good k g = record { frame = framed-when (sheet h rs c d) len c (sheet-sound k); records = rw sheet-rows g }
+  pub sheet-good : len ≤ sheet-limit → Ascending HasOctagon 0 rs → Good (sheet h rs c d) len c
+  sheet-good k g = record { frame = framed-when (sheet h rs c d) len c (sheet-frame k); records = rw sheet-rows g }

@@ -1,4 +1,5 @@
--- A sheet that is started: each answer, with what it leaves, and that it checks with no records. Assumes nothing.
+-- A sheet that is started: each answer with what it leaves; a refused start leaves every byte (`start-refused`), and an accepted one
+-- a sheet that checks with no records (`start-accepted`). Assumes nothing.
 use mathlib.Core.Path.{_≡_, refl, sym}
 use mathlib.Core.List.{List, [], _++_, append-nil}
 use Prim.Native.Nat.{ℕ, _+_, _≤_, _<_}
@@ -16,7 +17,7 @@ use Rattle.records.specs.Rows.{none}
 use Rattle.sheet.specs.Layout.{sheet-limit, trailer-length, trailer}
 use Rattle.sheet.specs.Answers.{bad-length, no-room}
 use Rattle.sheet.specs.Checking.{checked}
-use Rattle.sheet.specs.Writing.{started, after-start}
+use Rattle.sheet.specs.Writing.{started, after-start, StartedSheet}
 use Rattle.sheet.proofs.Frames.{past}
 use Rattle.sheet.proofs.Checks.{checked-when}
 use Rattle.sheet.proofs.TrailerBytes.{length-trailer}
@@ -44,16 +45,6 @@ pub start-refused : (s : List ℕ) (h k : ℕ) → started s h ≡ refused k →
 unfolding after-start
 start-refused s h k e = rw e
 
--- what an accepted start leaves in s, which is then s′
-pub record Started (s s′ : List ℕ) (h n : ℕ) : Type 0 where
-  -- it answers h + 16, and the sheet checks with no records
-  pub length-is : n ≡ h + trailer-length
-  pub checks : checked s′ n ≡ accepted 0
-  -- only the trailer's bytes are written, after the heading
-  pub heading : take h s′ ≡ take h s
-  pub past : drop n s′ ≡ drop n s
-  pub same-length : length s′ ≡ length s
-
 started-passed : (s : List ℕ) (h n : ℕ) → started s h ≡ accepted n
     → (h + trailer-length ≤ sheet-limit) × (h + trailer-length ≤ length s) × (n ≡ h + trailer-length)
 unfolding started
@@ -72,7 +63,7 @@ started-checks s h n l m e =
     (sheet-good (take h s) [] 0 d n no-bytes refl (omega (arith, length-take-le h s (omega arith))) (omega arith) none))
 
 -- "Only the 16 trailer bytes are written, after the heading, with distance and count 0. It answers h+16."
-pub start-accepted : (s : List ℕ) (h n : ℕ) → started s h ≡ accepted n → Started s (after-start s h) h n
+pub start-accepted : (s : List ℕ) (h n : ℕ) → started s h ≡ accepted n → StartedSheet s (after-start s h) h n
 start-accepted s h n e =
     let p = started-passed s h n e in
     let z = length-trailer 0 in

@@ -1,21 +1,22 @@
 -- The records of a sheet in order: one record, one more, and what an accepted survey says of them all. Assumes nothing.
 use mathlib.Core.Path.{_≡_, refl, sym, ap, _∙_}
-use mathlib.Core.Bool.{Bool, true, false, cond}
 use mathlib.Core.List.{List, [], _∷_}
 use Prim.Native.Nat.{ℕ, zero, suc, _+_, _-_, _≤_, _<_}
 use native.Mathlib.Omega.{arith}
 use lib.Dec.{ltb}
 use borrow.Author.Tests.{lt-ltb, le-ltb, ltb-true}
+use Rattle.integers.proofs.Tests.{cases}
 use Rattle.octagon.specs.declared.Octagon.{Octagon}
-use Rattle.octagon.specs.Outcome.{Outcome, accepted, refused, then}
-use Rattle.octagon.proofs.Outcomes.{accepted-same, accepted-not-refused}
+use Rattle.octagon.specs.Outcome.{accepted, refused}
+use Rattle.octagon.proofs.Outcomes.{accepted-same, accepted-not-refused, then-accepted, map-accepted}
 use Rattle.outline.specs.declared.Outline.{Outline}
 use Rattle.outline.specs.Tracing.{traced}
 use Rattle.records.specs.Parts.{part}
-use Rattle.records.specs.Rows.{records, key, Rising, none, more}
+use Rattle.records.specs.Rows.{records, key, Ascending, none, more}
 use Rattle.sheet.specs.Layout.{record-length, decoded}
 use Rattle.sheet.specs.Answers.{bad-number}
 use Rattle.sheet.specs.Checking.{judged, surveyed}
+use Rattle.sheet.specs.Cases.{HasOctagon}
 use Rattle.sheet.proofs.RecordBytes.{key-decoded}
 
 -- ---- one record
@@ -57,39 +58,28 @@ module _ (c before : ℕ) (s : List ℕ) (p : ℕ) where
 
 -- ---- all of them
 
--- the record's outline closes and is on the map
-abbrev pub Traced : List ℕ → Type 0
-Traced b = (o : Octagon) × (traced (decoded b .outline) ≡ accepted o)
-
-pub judged-when : (before : ℕ) (b : List ℕ) → before < key b → Traced b → judged before b ≡ accepted (key b)
+pub judged-when : (before : ℕ) (b : List ℕ) → before < key b → HasOctagon b → judged before b ≡ accepted (key b)
 unfolding judged
 judged-when before b h t = rw (lt-ltb before (key b) h, t .1)
 
-judged-passed : (before v : ℕ) (b : List ℕ) → judged before b ≡ accepted v → (before < key b) × Traced b × (v ≡ key b)
+judged-passed : (before v : ℕ) (b : List ℕ) → judged before b ≡ accepted v → (before < key b) × HasOctagon b × (v ≡ key b)
 unfolding judged
-judged-passed before v b = go (ltb before (key b)) refl (traced (decoded b .outline)) refl
-  where
-    go : (t : Bool) → ltb before (key b) ≡ t → (o : Outcome Octagon) → traced (decoded b .outline) ≡ o
-        → cond t (then o (λ _. accepted (key b))) (refused bad-number) ≡ accepted v → (before < key b) × Traced b × (v ≡ key b)
-    go true h (accepted o) q e = (ltb-true before (key b) h, (o, q), sym (accepted-same e))
-    go true h (refused k) q e = absurd (accepted-not-refused (sym e))
-    go false h o q e = absurd (accepted-not-refused (sym e))
+judged-passed before v b e =
+    cases (ltb before (key b))
+    (λ h. let p = map-accepted (traced (decoded b .outline)) (λ _. key b) v (rw h at e) in (ltb-true before (key b) h, (p .0, p .1), sym (p .2)))
+    (λ h. absurd (accepted-not-refused (sym (rw h at e))))
 
 -- a survey is accepted exactly where the numbers rise from above and each outline is accepted
-pub surveyed-when : (c : ℕ) {before : ℕ} {bs : List (List ℕ)} → Rising Traced before bs → surveyed c before bs ≡ accepted c
+pub surveyed-when : (c : ℕ) {before : ℕ} {bs : List (List ℕ)} → Ascending HasOctagon before bs → surveyed c before bs ≡ accepted c
 unfolding surveyed
 surveyed-when c none = refl
 surveyed-when c (more {v = v} {r = b} {rs = bs} h t m) = rw (judged-when v b h t) (surveyed-when c m)
 
-pub surveyed-passed : (c n before : ℕ) (bs : List (List ℕ)) → surveyed c before bs ≡ accepted n → Rising Traced before bs × (n ≡ c)
+pub surveyed-passed : (c n before : ℕ) (bs : List (List ℕ)) → surveyed c before bs ≡ accepted n → Ascending HasOctagon before bs × (n ≡ c)
 unfolding surveyed
 surveyed-passed c n before [] e = (none, sym (accepted-same e))
-surveyed-passed c n before (b ∷ bs) e = go (judged before b) refl (λ v. surveyed-passed c n v bs) e
-  where
-    go : (o : Outcome ℕ) → judged before b ≡ o → ((v : ℕ) → surveyed c v bs ≡ accepted n → Rising Traced v bs × (n ≡ c))
-        → then o (λ v. surveyed c v bs) ≡ accepted n → Rising Traced before (b ∷ bs) × (n ≡ c)
-    go (accepted v) q rest f =
-        let j = judged-passed before v b q in
-        let m = rest v f in
-        (more {r = b} (j .0) (j .1) (rw (j .2) at (m .0)), m .1)
-    go (refused k) q rest f = absurd (accepted-not-refused (sym f))
+surveyed-passed c n before (b ∷ bs) e =
+    let t = then-accepted (judged before b) (λ v. surveyed c v bs) n e in
+    let j = judged-passed before (t .between) b (t .first) in
+    let m = surveyed-passed c n (t .between) bs (t .second) in
+    (more {r = b} (j .0) (j .1) (rw (j .2) at (m .0)), m .1)

@@ -1,4 +1,5 @@
--- The bytes of a trailer: what is written is read again, and the marks in bytes. Assumes nothing.
+-- The bytes of a trailer: what is written is read again, and the marks are right exactly where eight bytes are (`marked-bytes`).
+-- Assumes nothing.
 use mathlib.Core.Path.{_≡_, refl, sym, ap, _∙_}
 use mathlib.Core.Logic.{_↔_}
 use mathlib.Core.List.{List, [], _∷_, _++_}
@@ -6,12 +7,12 @@ use Prim.Native.Nat.{ℕ, _+_, _*_, _^_, _≤_, _<_}
 use native.Mathlib.Omega.{arith}
 use lib.ListN.{length, take, drop, getD, length-drop}
 use lib.Seq.{drop-at, drop-drop}
-use Rattle.records.specs.Numbers.{number, bytes, packed, unpacked}
+use Rattle.records.specs.Numbers.{AreBytes, number, packed, unpacked}
 use Rattle.records.specs.Parts.{part}
-use Rattle.records.proofs.Numbers.{Bytes, drop-bytes}
+use Rattle.records.proofs.Numbers.{drop-bytes}
 use Rattle.records.proofs.Fields.{Fit, none, more, length-packed, unpacked-packed, packed-unpacked, unpacked-take}
-use Rattle.sheet.specs.Layout.{record-length, trailer-length, trailer-layout, letters, trailer-values, trailer, trailer-from, trailer-at}
-use Rattle.sheet.proofs.Frames.{Marked}
+use Rattle.sheet.specs.Layout.{record-length, trailer-length, trailer-layout, letters, trailer-values, trailer, marks, trailer-from, trailer-at}
+use Rattle.sheet.specs.Cases.{GoodMarks}
 
 pub length-trailer : (n : ℕ) → length (trailer n) ≡ trailer-length
 unfolding trailer
@@ -35,14 +36,11 @@ trailer-again a d t n e h =
 
 -- ---- the marks, in bytes
 
--- the fields of the record length, the zero bytes and the letters, and what stands in them
+-- the fields of the record length, the zero bytes and the letters
 marks-layout : List ℕ
 marks-layout = 2 ∷ 2 ∷ 4 ∷ []
 
-abbrev pub marks : List ℕ
-marks = bytes 2 record-length ++ (0 ∷ 0 ∷ 71 ∷ 82 ∷ 78 ∷ 68 ∷ [])
-
-to : (y : List ℕ) → Bytes y → 8 ≤ length y → let v = unpacked marks-layout y in
+to : (y : List ℕ) → AreBytes y → 8 ≤ length y → let v = unpacked marks-layout y in
     getD v 0 0 ≡ record-length → getD v 1 0 ≡ 0 → getD v 2 0 ≡ letters → take 8 y ≡ marks
 unfolding marks-layout
 to y b h p q r = sym (packed-unpacked marks-layout y b h) ∙ three (number (take 2 y)) (number (take 2 (drop 2 y))) (number (take 4 (drop 2 (drop 2 y)))) p q r
@@ -65,7 +63,7 @@ last-three s t =
     (ap (λ (v : List ℕ). getD v 0 0) f, ap (λ (v : List ℕ). getD v 1 0) f, ap (λ (v : List ℕ). getD v 2 0) f)
 
 -- the marks are right exactly where the last eight bytes of the trailer are these
-pub marked-bytes : (s : List ℕ) (t : ℕ) → Bytes s → t + trailer-length ≤ length s → Marked (trailer-at s t) ↔ (part s (t + 8) 8 ≡ marks)
+pub marked-bytes : (s : List ℕ) (t : ℕ) → AreBytes s → t + trailer-length ≤ length s → GoodMarks (trailer-at s t) ↔ (part s (t + 8) 8 ≡ marks)
 marked-bytes s t b h =
     let y = drop (t + 8) s in
     let e = last-three s t in (

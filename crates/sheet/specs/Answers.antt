@@ -1,7 +1,10 @@
--- Document 01's number and values for each case of this crate's answers. Assumes nothing.
+-- Document 01's number and values for each case of this crate's answers, a definition for each enum, and the refusal numbers by name.
+-- Assumes nothing.
 use Prim.Native.Nat.{ℕ}
 use Rattle.octagon.specs.Outcome.{Outcome, accepted, refused}
 use Rattle.sheet.specs.declared.Record.{Record}
+use Rattle.sheet.specs.declared.checking.Judged.{Judged}
+use Rattle.sheet.specs.declared.checking.Judged.the-variants as judged
 use Rattle.sheet.specs.declared.Checked.{Checked}
 use Rattle.sheet.specs.declared.Checked.the-variants as checked
 use Rattle.sheet.specs.declared.Fetched.{Fetched}
@@ -9,17 +12,21 @@ use Rattle.sheet.specs.declared.Fetched.the-variants as fetched
 use Rattle.sheet.specs.declared.Written.{Written}
 use Rattle.sheet.specs.declared.Written.the-variants as written
 
-abbrev pub count-of : Checked → Outcome ℕ
-count-of (checked.Count c) = accepted c
-count-of (checked.Refused k) = refused k
+abbrev pub count-outcome : Checked → Outcome ℕ
+count-outcome (checked.Count c) = accepted c
+count-outcome (checked.Refused k) = refused k
 
-abbrev pub record-of : Fetched → Outcome Record
-record-of (fetched.Record r) = accepted r
-record-of (fetched.Refused k) = refused k
+abbrev pub number-outcome : Judged → Outcome ℕ
+number-outcome (judged.Number v) = accepted v
+number-outcome (judged.Refused k) = refused k
 
-abbrev pub length-of : Written → Outcome ℕ
-length-of (written.Length n) = accepted n
-length-of (written.Refused k) = refused k
+abbrev pub record-outcome : Fetched → Outcome Record
+record-outcome (fetched.Record r) = accepted r
+record-outcome (fetched.Refused k) = refused k
+
+abbrev pub length-outcome : Written → Outcome ℕ
+length-outcome (written.Length n) = accepted n
+length-outcome (written.Refused k) = refused k
 
 -- the refusal numbers of this crate: the length; the trailer's marks; its distance; a plot number; no room; no such record
 abbrev pub bad-length : ℕ

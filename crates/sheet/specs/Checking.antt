@@ -1,10 +1,10 @@
--- What `check` and `fetch` answer: definitions that compute. proofs/CheckCases.antt says exactly when each answer of a check is
--- given. Assumes nothing.
-use mathlib.Core.Bool.{Bool, cond, not, _&&_, _||_}
+-- What `check`, `fetch` and `read` answer: definitions that compute. proofs/CheckCases.antt and proofs/ReadCases.antt say exactly when
+-- each answer of `check` and of `read` is given, proofs/Checks.antt what `fetch` answers. Assumes nothing.
+use mathlib.Core.Bool.{Bool, cond, not, _||_}
 use mathlib.Core.List.{List, [], _∷_}
 use Prim.Native.Nat.{ℕ, _+_, _-_, _*_, _≤_}
 use lib.ListN.{length, getD}
-use lib.Dec.{leb, ltb, eqb}
+use lib.Dec.{ltb, eqb}
 use Rattle.octagon.specs.Outcome.{Outcome, accepted, refused, then}
 use Rattle.outline.specs.Tracing.{traced}
 use Rattle.records.specs.Rows.{records, key}
@@ -14,27 +14,27 @@ use Rattle.sheet.specs.Layout.{sheet-limit, record-length, trailer-lengt
 use Rattle.sheet.specs.Answers.{bad-length, bad-trailer, bad-distance, bad-number, no-record}
 
 -- the length is below the trailer's, above the limit or above the buffer's
-abbrev pub wrong-length : List ℕ → ℕ → Bool
-wrong-length s len = ltb len trailer-length || ltb sheet-limit len || ltb (length s) len
+abbrev pub is-bad-length : List ℕ → ℕ → Bool
+is-bad-length s len = ltb len trailer-length || ltb sheet-limit len || ltb (length s) len
 
 -- record length, zero bytes or letters are wrong
-abbrev pub wrong-marks : Trailer → Bool
-wrong-marks z = not (eqb (z .length) record-length) || not (eqb (z .zeros) 0) || not (eqb (z .letters) letters)
+abbrev pub has-bad-marks : Trailer → Bool
+has-bad-marks z = not (eqb (z .length) record-length) || not (eqb (z .zeros) 0) || not (eqb (z .letters) letters)
 
 -- the distance is not that of the records, or exceeds the length less the trailer's
-abbrev pub wrong-distance : ℕ → Trailer → Bool
-wrong-distance len z = not (eqb (z .distance) (record-length * z .count)) || ltb (len - trailer-length) (z .distance)
+abbrev pub is-bad-distance : ℕ → Trailer → Bool
+is-bad-distance len z = not (eqb (z .distance) (record-length * z .count)) || ltb (len - trailer-length) (z .distance)
 
 -- the count that a trailer states for a sheet of len bytes: 9, then 10
 unfoldable pub stated : ℕ → Trailer → Outcome ℕ
-stated len z = cond (wrong-marks z) (refused bad-trailer) (cond (wrong-distance len z) (refused bad-distance) (accepted (z .count)))
+stated len z = cond (has-bad-marks z) (refused bad-trailer) (cond (is-bad-distance len z) (refused bad-distance) (accepted (z .count)))
 
 -- the count that the sheet's trailer states: 8 first
 unfoldable pub framed : List ℕ → ℕ → Outcome ℕ
-framed s len = cond (wrong-length s len) (refused bad-length) (stated len (trailer-at s (len - trailer-length)))
+framed s len = cond (is-bad-length s len) (refused bad-length) (stated len (trailer-at s (len - trailer-length)))
 
--- what is known of a sheet of len bytes with c records, where that is accepted
-pub record Framed (s : List ℕ) (len c : ℕ) : Type 0 where
+-- the first len bytes of s are as many as a sheet may have, and have room for c records and a trailer
+pub record HoldsRecords (s : List ℕ) (len c : ℕ) : Type 0 where
   pub within : len ≤ length s
   pub short : len ≤ sheet-limit
   pub long : record-length * c + trailer-length ≤ len
@@ -66,8 +66,10 @@ unfoldable pub fetched : List ℕ → ℕ → ℕ → Outcome Record
 fetched s len k =
     then (checked s len) (λ c. cond (ltb k c) (accepted (decoded (getD (rows s len c) k []))) (refused no-record))
 
--- what `read` answers of a sheet that was checked: 13 when k is not below the count c, or c records do not lie in the buffer
+-- what `read` answers of a sheet in which a check has counted c records: 8 for the length, 10 when the records exceed the length
+-- less the trailer's, 13 when k is not below c. No record is checked.
 unfoldable pub read : List ℕ → ℕ → ℕ → ℕ → Outcome Record
 read s len c k =
-    cond (ltb k c && leb (record-length * c + trailer-length) len && leb len (length s)) (accepted (decoded (getD (rows s len c) k [])))
-    (refused no-record)
+    cond (is-bad-length s len) (refused bad-length)
+    (cond (ltb (len - trailer-length) (record-length * c)) (refused bad-distance)
+    (cond (ltb k c) (accepted (decoded (getD (rows s len c) k []))) (refused no-record)))

@@ -1,10 +1,12 @@
--- The bytes of a record and of a trailer, as document 01 lays them out, and the lengths it names. Assumes nothing.
+-- The bytes of a record and of a trailer, as document 01 lays them out, the lengths it names, and which outlines fit a record.
+-- Assumes nothing.
 use Prim.Native.Nat.{ℕ, _*_, _/_, _^_, _<_}
-use mathlib.Core.List.{List, [], _∷_}
+use mathlib.Core.List.{List, [], _∷_, _++_}
 use lib.ListN.{getD, drop}
 use lib.Signed.{mag}
 use Rattle.outline.specs.declared.Outline.{Outline}
-use Rattle.records.specs.Numbers.{number, signed, twos, packed, unpacked}
+use Rattle.records.specs.Text.{ascii}
+use Rattle.records.specs.Numbers.{number, bytes, signed, twos, packed, unpacked}
 use Rattle.records.specs.Rows.{key-width}
 use Rattle.sheet.specs.declared.Record.{Record}
 use Rattle.sheet.specs.declared.trailer.Trailer.{Trailer}
@@ -85,7 +87,7 @@ pub record Fits (o : Outline) : Type 0 where
 
 -- the letters GRND, as the number that their bytes are
 abbrev pub letters : ℕ
-letters = number (71 ∷ 82 ∷ 78 ∷ 68 ∷ [])
+letters = number (ascii "GRND")
 
 -- a trailer's fields: distance back to the first record, record count, record length, two zero bytes, letters
 abbrev pub trailer-layout : List ℕ
@@ -97,6 +99,10 @@ trailer-values n = record-length * n ∷ n ∷ record-length ∷ 0 ∷ letters �
 
 unfoldable pub trailer : ℕ → List ℕ
 trailer n = packed trailer-layout (trailer-values n)
+
+-- its last eight bytes, whatever n is: the record length, two zero bytes and the letters
+abbrev pub marks : List ℕ
+marks = bytes 2 record-length ++ (0 ∷ 0 ∷ ascii "GRND")
 
 -- the trailer of these numbers, and the trailer at index t of s
 abbrev pub trailer-from : List ℕ → Trailer

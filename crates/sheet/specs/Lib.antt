@@ -1,5 +1,7 @@
--- What the contracts on sheets cite: the bytes of records and trailers, and what each call answers and leaves.
+-- What the contracts and the theorems on sheets speak of: the bytes of records and trailers, what each call answers and leaves, and
+-- the cases of its answers.
 pub mod Layout
 pub mod Answers
 pub mod Checking
+pub mod Cases
 pub mod Writing

@@ -1,23 +1,19 @@
--- What `start` and `insert` answer, and what they leave in the buffer: definitions that compute. proofs/Starts.antt and
--- proofs/Grown.antt say what they mean. Assumes nothing.
+-- What `start` and `insert` answer and leave in the buffer: definitions that compute, and for each call what document 01 says of an
+-- accepted one (`StartedSheet`, `GrownSheet`), which proofs/Starts.antt and proofs/Grown.antt show of them. Assumes nothing.
+use mathlib.Core.Path.{_≡_}
 use mathlib.Core.Bool.{cond, _||_}
 use mathlib.Core.List.{List, _++_}
-use Prim.Native.Nat.{ℕ, _+_}
+use Prim.Native.Nat.{ℕ, suc, _+_, _≤_, _<_}
 use lib.ListN.{length, take, drop}
 use lib.Dec.{ltb, eqb}
-use Rattle.octagon.specs.Outcome.{Outcome, accepted, refused, then}
+use Rattle.octagon.specs.Outcome.{Outcome, accepted, refused, then, left}
 use Rattle.outline.specs.Tracing.{traced}
 use Rattle.records.specs.Parts.{splice}
-use Rattle.records.specs.Rows.{joined, present, placed}
+use Rattle.records.specs.Rows.{joined, present, put-in-order}
 use Rattle.sheet.specs.declared.Record.{Record}
 use Rattle.sheet.specs.Layout.{sheet-limit, record-length, trailer-length, trailer, encoded}
 use Rattle.sheet.specs.Answers.{bad-length, bad-number, no-room}
-use Rattle.sheet.specs.Checking.{first, rows, checked}
-
--- what a call leaves of the buffer s: what it writes where it is accepted, and s itself where it is refused
-abbrev pub left : {A : Type 0} → List ℕ → Outcome A → (A → List ℕ) → List ℕ
-left s (accepted a) f = f a
-left s (refused k) f = s
+use Rattle.sheet.specs.Checking.{first, rows, checked, fetched}
 
 -- ---- start a sheet
 
@@ -30,6 +26,16 @@ started s h =
 -- the trailer of no records is written after the heading, and no other byte
 unfoldable pub after-start : List ℕ → ℕ → List ℕ
 after-start s h = left s (started s h) (λ _. splice s h (trailer 0))
+
+-- what an accepted start leaves in s, which is then s′
+pub record StartedSheet (s s′ : List ℕ) (h n : ℕ) : Type 0 where
+  -- it answers h + 16, and the sheet checks with no records
+  pub length-is : n ≡ h + trailer-length
+  pub checks : checked s′ n ≡ accepted 0
+  -- only the trailer's bytes are written, after the heading
+  pub heading : take h s′ ≡ take h s
+  pub past : drop n s′ ≡ drop n s
+  pub same-length : length s′ ≡ length s
 
 -- ---- insert a plot
 
@@ -54,8 +60,22 @@ inserted s len r = then (insertion s len r) (λ _. accepted (len + record-length
 
 -- a sheet of c records with one more: the heading, the records by rising number, the trailer, and what followed
 unfoldable pub grown : List ℕ → ℕ → ℕ → List ℕ → List ℕ
-grown s len c b = take (first len c) s ++ joined (placed b (rows s len c)) ++ trailer (c + 1) ++ drop (len + record-length) s
+grown s len c b = take (first len c) s ++ joined (put-in-order b (rows s len c)) ++ trailer (c + 1) ++ drop (len + record-length) s
 
 -- what `insert` leaves
 unfoldable pub after-insert : List ℕ → ℕ → Record → List ℕ
 after-insert s len r = left s (insertion s len r) (λ c. grown s len c (encoded r))
+
+-- s′ is the sheet s of len bytes and c records with the record r inserted
+pub record GrownSheet (s s′ : List ℕ) (len c : ℕ) (r : Record) : Type 0 where
+  -- it checks, with one record more
+  pub checks : checked s′ (len + record-length) ≡ accepted (c + 1)
+  -- the new record is fetched at its place, the old ones before and after it in their order
+  pub at : ℕ
+  pub before : (k : ℕ) → k < at → fetched s′ (len + record-length) k ≡ fetched s len k
+  pub here : fetched s′ (len + record-length) at ≡ accepted r
+  pub after : (k : ℕ) → at ≤ k → fetched s′ (len + record-length) (suc k) ≡ fetched s len k
+  -- heading and bytes past the new length keep their values
+  pub heading : take (first len c) s′ ≡ take (first len c) s
+  pub past : drop (len + record-length) s′ ≡ drop (len + record-length) s
+  pub same-length : length s′ ≡ length s

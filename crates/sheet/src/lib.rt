@@ -1,9 +1,9 @@
 // Sheets of plots in lent buffers: a heading, records by rising plot number, and a trailer.
 //
-// specs/Layout.antt has the bytes of a record and of a trailer, specs/Checking.antt what `check` and `fetch` answer,
-// specs/Writing.antt what `start` and `insert` answer and leave in the buffer.
+// specs/Layout.antt has the bytes of a record and of a trailer, specs/Checking.antt what `check`, `fetch` and `read` answer,
+// specs/Cases.antt when each answer of `check` and `read` is given, specs/Writing.antt what `start` and `insert` answer and leave.
 ghost use mathlib.Core.Path.{_≡_};
-ghost use Rattle.sheet.specs.Answers.{«count-of», «record-of», «length-of»};
+ghost use Rattle.sheet.specs.Answers.{«count-outcome», «record-outcome», «length-outcome»};
 ghost use Rattle.sheet.specs.Checking.{checked, fetched, read as «read-of»};
 ghost use Rattle.sheet.specs.Writing.{started, «after-start», inserted, «after-insert»};
 use octagon::Answer;
@@ -63,7 +63,7 @@ pub const NO_RECORD: u32 = 13;
 // How many records the sheet in the first `len` bytes has. Refuses a wrong length, wrong marks in the trailer, a wrong distance,
 // and then for each record in order a wrong number and the refusals of its outline.
 pub fn check(sheet: &[u8], len: usize) -> Checked
-    ensures { λ r. ⌜ «count-of» r ≡ checked (now (sheet .entry)) len ⌝ }
+    ensures { λ r. ⌜ «count-outcome» r ≡ checked (now (sheet .entry)) len ⌝ }
 {
     let stated = trailer::frame(sheet, len);
     let Checked::Count(c) = stated else {
@@ -74,38 +74,37 @@ pub fn check(sheet: &[u8], len: usize) -> Checked
 
 // Record k, counted from 0. The refusals of the check, and then k not below the count.
 pub fn fetch(sheet: &[u8], len: usize, k: u32) -> Fetched
-    ensures { λ r. ⌜ «record-of» r ≡ fetched (now (sheet .entry)) len k ⌝ }
+    ensures { λ r. ⌜ «record-outcome» r ≡ fetched (now (sheet .entry)) len k ⌝ }
 {
     match check(sheet, len) {
         Checked::Refused(e) => Fetched::Refused(e),
-        Checked::Count(c) => {
-            if k < c {
-                let first = len - TRAILER - RECORD * (c as usize);
-                Fetched::Record(encoding::record_at(sheet, first + RECORD * (k as usize)))
-            } else {
-                Fetched::Refused(NO_RECORD)
-            }
-        }
+        Checked::Count(c) => read(sheet, len, c, k),
     }
 }
 
 // Record k of a sheet of `len` bytes in which a check has counted `count` records: what `fetch` answers, with no check of the
-// records. Refuses a k that is not below the count, or records that do not lie in the buffer.
+// records. Refuses a wrong length, then more records than that length holds, then a k that is not below the count.
 pub fn read(sheet: &[u8], len: usize, count: u32, k: u32) -> Fetched
-    ensures { λ r. ⌜ «record-of» r ≡ «read-of» (now (sheet .entry)) len count k ⌝ }
+    ensures { λ r. ⌜ «record-outcome» r ≡ «read-of» (now (sheet .entry)) len count k ⌝ }
 {
-    let size = RECORD * (count as usize) + TRAILER;
-    if (k < count) & (size <= len) & (len <= sheet.len()) {
-        let first = len - size;
-        return Fetched::Record(encoding::record_at(sheet, first + RECORD * (k as usize)));
+    if trailer::is_bad_length(sheet, len) {
+        return Fetched::Refused(BAD_LENGTH);
     }
-    Fetched::Refused(NO_RECORD)
+    let end = len - TRAILER;
+    let distance = RECORD * (count as usize);
+    if end < distance {
+        return Fetched::Refused(BAD_DISTANCE);
+    }
+    if count <= k {
+        return Fetched::Refused(NO_RECORD);
+    }
+    Fetched::Record(encoding::record_at(sheet, end - distance + RECORD * (k as usize)))
 }
 
 // Starts a sheet of no records after `heading` bytes, and answers its length. Refuses a sheet that is too long, then one that
 // the buffer has no room for.
 pub fn start(sheet: &mut [u8], heading: usize) -> Written
-    ensures { λ r. ⌜ («length-of» r ≡ started (now (sheet .entry)) heading) × (now (sheet .exit) ≡ «after-start» (now (sheet .entry)) heading) ⌝ }
+    ensures { λ r. ⌜ («length-outcome» r ≡ started (now (sheet .entry)) heading) × (now (sheet .exit) ≡ «after-start» (now (sheet .entry)) heading) ⌝ }
 {
     if LIMIT - TRAILER < heading {
         return Written::Refused(BAD_LENGTH);
@@ -121,7 +120,7 @@ pub fn start(sheet: &mut [u8], heading: usize) -> Written
 // Inserts a record by its number, and answers the new length. The refusals of its outline and of the check, then a number that
 // is 0 or that a record has, then a sheet that has no room.
 pub fn insert(sheet: &mut [u8], len: usize, r: Record) -> Written
-    ensures { λ a. ⌜ («length-of» a ≡ inserted (now (sheet .entry)) len r) × (now (sheet .exit) ≡ «after-insert» (now (sheet .entry)) len r) ⌝ }
+    ensures { λ a. ⌜ («length-outcome» a ≡ inserted (now (sheet .entry)) len r) × (now (sheet .exit) ≡ «after-insert» (now (sheet .entry)) len r) ⌝ }
 {
     let o = r.outline;
     match outline::to_octagon(o) {

@@ -5,7 +5,7 @@ ghost use Prim.Native.Nat.{_+_, _≤_, _<_};
 ghost use lib.ListN.{length, getD, drop};
 ghost use mir.Val.{SFits};
 ghost use mir.Syntax.{w16};
-ghost use Rattle.records.specs.Numbers.{number, bytes, signed, twos, total, packed, unpacked, narrow};
+ghost use Rattle.records.specs.Numbers.{number, bytes, signed, twos, «total-width», packed, unpacked, narrow};
 ghost use Rattle.records.specs.Parts.{part, splice};
 
 // One byte as a number.
@@ -46,7 +46,7 @@ pub fn put_number(s: &mut [u8], at: usize, width: usize, v: u32)
 
 // The numbers in fields of these widths.
 pub fn unpack(s: &[u8], at: usize, widths: &[usize], values: &mut [u32])
-    requires { ⌜ (at + total (now widths) ≤ length (now s)) × (narrow (now widths) ≡ true) ⌝ }
+    requires { ⌜ (at + «total-width» (now widths) ≤ length (now s)) × (narrow (now widths) ≡ true) ⌝ }
     requires { ⌜ length (now values) ≡ length (now widths) ⌝ }
     ensures { λ _. ⌜ now (values .exit) ≡ unpacked (now (widths .entry)) (drop at (now (s .entry))) ⌝ }
 {
@@ -62,7 +62,7 @@ pub fn unpack(s: &[u8], at: usize, widths: &[usize], values: &mut [u32])
 
 // Writes numbers into fields of these widths.
 pub fn pack(s: &mut [u8], at: usize, widths: &[usize], values: &[u32])
-    requires { ⌜ at + total (now widths) ≤ length (now s) ⌝ }
+    requires { ⌜ at + «total-width» (now widths) ≤ length (now s) ⌝ }
     requires { ⌜ length (now values) ≡ length (now widths) ⌝ }
     ensures { λ _. ⌜ now (s .exit) ≡ splice (now (s .entry)) at (packed (now (widths .entry)) (now (values .entry))) ⌝ }
 {

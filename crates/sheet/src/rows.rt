@@ -4,7 +4,7 @@ ghost use Prim.Native.Nat.{_+_, _*_, _≤_};
 ghost use lib.ListN.{length};
 ghost use Rattle.records.specs.Numbers.{number};
 ghost use Rattle.records.specs.Parts.{part, shifted};
-ghost use Rattle.records.specs.Rows.{records, «key-width», present, place};
+ghost use Rattle.records.specs.Rows.{records, «key-width», present, rank};
 use crate::numbers::read_number;
 
 // The bytes of a plot number.
@@ -36,9 +36,9 @@ pub fn has_number(s: &[u8], first: usize, count: usize, width: usize, v: u32) ->
 }
 
 // How many of these records stand before the first whose number is not below v.
-pub fn place_of(s: &[u8], first: usize, count: usize, width: usize, v: u32) -> usize
+pub fn rank_of(s: &[u8], first: usize, count: usize, width: usize, v: u32) -> usize
     requires { ⌜ («key-width» ≤ width) × (first + width * count ≤ length (now s)) ⌝ }
-    ensures { λ r. ⌜ (r ≡ place v (records width (now (s .entry)) first count)) × (r ≤ count) ⌝ }
+    ensures { λ r. ⌜ (r ≡ rank v (records width (now (s .entry)) first count)) × (r ≤ count) ⌝ }
 {
     let mut p = first;
     let mut k = 0;

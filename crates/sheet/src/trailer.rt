@@ -3,9 +3,9 @@ ghost use mathlib.Core.Path.{_≡_};
 ghost use Prim.Native.Nat.{_+_, _*_, _≤_};
 ghost use lib.ListN.{length};
 ghost use Rattle.records.specs.Parts.{splice};
-ghost use Rattle.sheet.specs.Answers.{«count-of»};
+ghost use Rattle.sheet.specs.Answers.{«count-outcome»};
 ghost use Rattle.sheet.specs.Layout.{«record-length», «trailer-length», trailer, «trailer-at»};
-ghost use Rattle.sheet.specs.Checking.{stated, framed};
+ghost use Rattle.sheet.specs.Checking.{«is-bad-length», stated, framed};
 use crate::BAD_DISTANCE;
 use crate::BAD_LENGTH;
 use crate::BAD_TRAILER;
@@ -30,8 +30,9 @@ const FIELDS: usize = 5;
 
 const WIDTHS: [usize; FIELDS] = [4, 4, 2, 2, 4];
 
-// The letters GRND, as a number.
-const LETTERS: u32 = 1145983559;
+// The letters GRND, as the number that their bytes are.
+const LETTERS: u32 = (b'G' as u32)
+    + 256 * ((b'R' as u32) + 256 * ((b'N' as u32) + 256 * (b'D' as u32)));
 
 // The trailer at an index.
 fn read_trailer(s: &[u8], at: usize) -> Trailer
@@ -61,7 +62,7 @@ pub fn put_trailer(s: &mut [u8], at: usize, count: u32)
 // The count that a trailer states for a sheet of `len` bytes. Refuses wrong marks, then a wrong distance.
 fn state(z: Trailer, len: usize) -> Checked
     requires { ⌜ «trailer-length» ≤ len ⌝ }
-    ensures { λ r. ⌜ «count-of» r ≡ stated len z ⌝ }
+    ensures { λ r. ⌜ «count-outcome» r ≡ stated len z ⌝ }
 {
     let distance = z.distance as usize;
     let count = z.count;
@@ -75,11 +76,18 @@ fn state(z: Trailer, len: usize) -> Checked
     Checked::Count(count)
 }
 
+// Whether no sheet in this buffer can have `len` bytes: fewer than a trailer, more than the limit, or more than the buffer.
+pub fn is_bad_length(sheet: &[u8], len: usize) -> bool
+    ensures { λ r. ⌜ r ≡ «is-bad-length» (now (sheet .entry)) len ⌝ }
+{
+    (len < TRAILER) | (LIMIT < len) | (sheet.len() < len)
+}
+
 // The count that the trailer of a sheet states. Refuses a wrong length first.
 pub fn frame(sheet: &[u8], len: usize) -> Checked
-    ensures { λ r. ⌜ «count-of» r ≡ framed (now (sheet .entry)) len ⌝ }
+    ensures { λ r. ⌜ «count-outcome» r ≡ framed (now (sheet .entry)) len ⌝ }
 {
-    if (len < TRAILER) | (LIMIT < len) | (sheet.len() < len) {
+    if is_bad_length(sheet, len) {
         return Checked::Refused(BAD_LENGTH);
     }
     state(read_trailer(sheet, len - TRAILER), len)

@@ -7,12 +7,12 @@ use borrow.Author.Needs.{needs}
 use mir.Syntax.{w64}
 use mir.Val.{Fits}
 use mir.Facts.{toZ-ofZ}
-use Rattle.cell_count.specs.Area.{Length}
+use Rattle.cell_count.specs.Area.{MapLength}
 use Rattle.cell_count.proofs.Lengths.{length-most, length-unsigned}
 use Rattle.cell_count.proofs.unsigned.Statement.{statement}
 use Rattle.cell_count.proofs.unsigned.Tie as tie
 
-kept : (z : ℤ) → Length z → T (nonNeg z) × Fits w64 (natAbs z)
+kept : (z : ℤ) → MapLength z → T (nonNeg z) × Fits w64 (natAbs z)
 kept z h = (length-unsigned z h, record { fits = omega (arith, length-most z h) })
 
 cast-result : tie.Need-cast-result

@@ -6,11 +6,17 @@ use Rattle.decomposition.proofs.decompose.Tie as tie
 
 returns : tie.Need-returns
 unfolding decomposition
-returns c = rw (← (c .before .before .before .before .to-outline .ensures), c .before .before .t .given .1, c .split-of .ensures)
+returns c =
+    let bound = c .before .before in
+    let call = bound .before .before in
+    rw (← (call .to-outline .ensures), bound .t .given .1, c .split-of .ensures)
 
 returns-2 : tie.Need-returns-2
 unfolding decomposition
-returns-2 c = rw (← (c .before .before .before .to-outline .ensures), c .before .n .given .1)
+returns-2 c =
+    let bound = c .before in
+    let call = bound .before .before in
+    rw (← (call .to-outline .ensures), bound .n .given .1)
 
 pub decompose-spec : {M : Type 1} → statement M
 decompose-spec = tie.close (tie.spec (λ c κs. tt) (λ c. search needs) (λ c κs. tt) (λ c. search needs) returns returns-2)

@@ -1,21 +1,17 @@
 -- `opening` meets its contract: a refused erosion is handed back, and an accepted one dilated. Assumes nothing.
-use mathlib.Core.Path.{sym, _∙_, ap}
 use borrow.Author.Needs.{needs}
-use Rattle.octagon.specs.Answers.{outcome}
-use Rattle.morphology.proofs.Calls.{is-accepted, is-refused}
-use Rattle.morphology.proofs.Openings.{opening-erosion-refused, opening-dilation}
+use Rattle.morphology.specs.Operations.{opened}
+use Rattle.morphology.proofs.Calls.{step-refused, step-accepted}
 use Rattle.morphology.proofs.opening.Statement.{statement}
 use Rattle.morphology.proofs.opening.Tie as tie
 
 returns : tie.Need-returns
-returns c =
-    let e = c .enum-told .given .1 in
-    ap outcome e ∙ sym (opening-erosion-refused _ _ _ (is-refused (c .before .before .erode .ensures) e))
+unfolding opened
+returns c = search step-refused
 
 returns-2 : tie.Need-returns-2
-returns-2 c =
-    let b = c .before .before in
-    c .dilate .ensures ∙ sym (opening-dilation _ _ _ (is-accepted (b .before .before .erode .ensures) (b .eroded .given .1)))
+unfolding opened
+returns-2 c = search step-accepted
 
 pub opening-spec : {M : Type 1} → statement M
 opening-spec =

@@ -50,12 +50,12 @@ other p q = rw p at q
 cell : (c : tie.After-has-cell) → c .has-cell .result ≡ has-cell (octagon-of (c .before .tighten-odd .result))
 cell c = c .has-cell .ensures
 
-both : (c : tie.After-is-on-map) → let b = octagon-of (c .before .before .tighten-odd .result) in
+tested : (c : tie.After-is-on-map) → let b = octagon-of (c .before .before .tighten-odd .result) in
     (c .before .has-cell .result && c .is-on-map .result) ≡ (has-cell b && is-on-map b)
-both c = and-is (cell (c .before)) (c .is-on-map .ensures)
+tested c = and-is (cell (c .before)) (c .is-on-map .ensures)
 
 passed : (c : tie.Then1) → let b = octagon-of (c .before .before .before .tighten-odd .result) in (has-cell b ≡ true) × (is-on-map b ≡ true)
-passed c = both-true _ _ (told (c .if1 .taken) (both (c .before)))
+passed c = both-true _ _ (told (c .if1 .taken) (tested (c .before)))
 
 returns : tie.Need-returns
 returns c =
@@ -67,7 +67,7 @@ returns-2 : tie.Need-returns-2
 returns-2 c =
     let a = c .before .before in
     let h = told (c .if2 .taken) (cell (a .before)) in
-    off _ _ (is-form (a .before .before)) h (other h (told (c .before .if1 .left) (both a)))
+    off _ _ (is-form (a .before .before)) h (other h (told (c .before .if1 .left) (tested a)))
 
 returns-3 : tie.Need-returns-3
 returns-3 c =

@@ -8,15 +8,23 @@ use Rattle.outline.proofs.to_outline.Tie as tie
 
 outline-of-requires : tie.Need-outline-of-requires
 outline-of-requires c κs =
-    accepted-sized (c .before .before .before .before .args .o) _ (rw (c .before .a .given .1) at (sym (c .before .before .before .normalise .ensures)))
+    let bound = c .before in
+    let call = bound .before .before in
+    accepted-sized (call .before .args .o) _ (rw (bound .a .given .1) at (sym (call .normalise .ensures)))
 
 returns : tie.Need-returns
 unfolding outlined
-returns c = rw (← (c .before .before .before .before .normalise .ensures), c .before .before .a .given .1, c .outline-of .ensures)
+returns c =
+    let bound = c .before .before in
+    let call = bound .before .before in
+    rw (← (call .normalise .ensures), bound .a .given .1, c .outline-of .ensures)
 
 returns-2 : tie.Need-returns-2
 unfolding outlined
-returns-2 c = rw (← (c .before .before .before .normalise .ensures), c .before .n .given .1)
+returns-2 c =
+    let bound = c .before in
+    let call = bound .before .before in
+    rw (← (call .normalise .ensures), bound .n .given .1)
 
 pub to-outline-spec : {M : Type 1} → statement M
 to-outline-spec =

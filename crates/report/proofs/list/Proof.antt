@@ -5,10 +5,10 @@ use native.Mathlib.Omega.{arith}
 use lib.ListN.{length}
 use borrow.Author.Needs.{needs}
 use Rattle.octagon.specs.Outcome.{accepted, refused}
-use Rattle.sheet.specs.Answers.{count-of}
+use Rattle.sheet.specs.Answers.{count-outcome}
 use Rattle.sheet.specs.Checking.{checked}
 use Rattle.report.specs.Listing.{listing, text-limit}
-use Rattle.report.proofs.Writing.{put-counts}
+use Rattle.report.proofs.Writing.{put-prefix}
 use Rattle.report.proofs.Lengths.{listing-fits}
 use Rattle.report.proofs.Listings.{listing-accepted, listing-refused}
 use Rattle.report.proofs.list.Statement.{statement}
@@ -16,10 +16,10 @@ use Rattle.report.proofs.list.Tie as tie
 
 -- the check's answer, in its two cases
 refuses : (c : tie.After-e) → let a = c .before .before .before .before .args in checked (a .sheet .now) (a .len) ≡ refused (c .e .given .0 .0)
-refuses c = sym (c .before .before .check .ensures) ∙ ap count-of (c .e .given .1)
+refuses c = sym (c .before .before .check .ensures) ∙ ap count-outcome (c .e .given .1)
 
 accepts : (c : tie.After-c) → let a = c .before .before .before .before .args in checked (a .sheet .now) (a .len) ≡ accepted (c .c .given .0 .0)
-accepts c = sym (c .before .before .check .ensures) ∙ ap count-of (c .c .given .1)
+accepts c = sym (c .before .before .check .ensures) ∙ ap count-outcome (c .c .given .1)
 
 -- the listing fits the buffer
 fits : (c : tie.After-shared-slice-known) → length (listing (c .before .args .sheet .now) (c .before .args .len)) ≤ text-limit
@@ -43,7 +43,7 @@ returns c =
     let a = d .before .before .before .before .args in
     let p = c .put-refused .ensures in
     let e = listing-refused (a .sheet .now) (a .len) _ (refuses d) in
-    (put-counts p, rw e (omega (arith, p .past), p .text))
+    (put-prefix p, rw e (omega (arith, p .past), p .text))
 
 returns-2 : tie.Need-returns-2
 returns-2 c =
@@ -51,7 +51,7 @@ returns-2 c =
     let a = d .before .before .before .before .args in
     let p = c .put-all .ensures in
     let e = listing-accepted (a .sheet .now) (a .len) _ (accepts d) in
-    (put-counts p, rw e (omega (arith, p .past), p .text))
+    (put-prefix p, rw e (omega (arith, p .past), p .text))
 
 pub list-spec : {M : Type 1} → statement M
 list-spec =

@@ -10,23 +10,36 @@ use Rattle.sheet.proofs.Inserts.{insert-outline, insert-sheet}
 use Rattle.sheet.proofs.insert.Statement.{statement}
 use Rattle.sheet.proofs.insert.Tie as tie
 
+-- the steps: the start, the outline's answer, and that it is an octagon
+abbrev start-of : tie.After-to-octagon → tie.Start
+start-of c = c .before .before .before
+
+abbrev answer-step : tie.After-enum-told → tie.After-to-octagon
+answer-step c = c .before .before
+
 -- the octagon of an outline that is accepted
-octagon : (c : tie.After-enum-told) → (o : Octagon) × (traced (c .before .before .before .before .before .args .r .outline) ≡ accepted o)
-octagon c = (_, sym (c .before .before .to-octagon .ensures) ∙ ap outcome (c .enum-told .given .1))
+octagon : (c : tie.After-enum-told) → (o : Octagon) × (traced (start-of (answer-step c) .args .r .outline) ≡ accepted o)
+octagon c = (_, sym (answer-step c .to-octagon .ensures) ∙ ap outcome (c .enum-told .given .1))
 
 insert-traced-requires : tie.Need-insert-traced-requires
-insert-traced-requires c κs = let o = octagon (c .before) in accepted-fits (c .before .before .before .before .before .before .args .r .outline) (o .0) (o .1)
+insert-traced-requires c κs =
+    let at-octagon = c .before in
+    let o = octagon at-octagon in
+    accepted-fits (start-of (answer-step at-octagon) .args .r .outline) (o .0) (o .1)
 
 returns : tie.Need-returns
 returns c =
-    let a = c .before .before .before .before .before .before .args in
-    insert-outline (a .sheet .now) (a .len) (a .r) (sym (c .before .before .before .to-octagon .ensures) ∙ ap outcome (c .before .e .given .1))
+    let at-answer = c .before .before .before in
+    let a = start-of at-answer .args in
+    insert-outline (a .sheet .now) (a .len) (a .r) (sym (at-answer .to-octagon .ensures) ∙ ap outcome (c .before .e .given .1))
 
 returns-2 : tie.Need-returns-2
 returns-2 c =
-    let a = c .before .before .before .before .before .before .before .before .before .args in
-    let t = c .before .before .insert-traced .ensures in
-    let e = insert-sheet (a .sheet .now) (a .len) (a .r) (octagon (c .before .before .before .before) .1) in
+    let at-insert = c .before .before in
+    let at-octagon = at-insert .before .before in
+    let a = start-of (answer-step at-octagon) .args in
+    let t = at-insert .insert-traced .ensures in
+    let e = insert-sheet (a .sheet .now) (a .len) (a .r) (octagon at-octagon .1) in
     (t .0 ∙ e .0, t .1 ∙ e .1)
 
 pub insert-spec : {M : Type 1} → statement M

@@ -14,9 +14,11 @@ returns-2 c = start-full _ _ (omega arith) (omega arith)
 
 returns-3 : tie.Need-returns-3
 returns-3 c =
-    let a = c .before .before .before .before .before .before .before .args in
+    let at-trailer = c .before .before in
+    let at-room = at-trailer .before .before in
+    let a = at-room .before .before .before .args in
     let m = start-made (a .sheet .now) (a .heading) (omega arith) (omega arith) in
-    (m .0, c .before .before .put-trailer .ensures ∙ m .1)
+    (m .0, at-trailer .put-trailer .ensures ∙ m .1)
 
 pub start-spec : {M : Type 1} → statement M
 start-spec =

@@ -5,13 +5,7 @@ use Rattle.decomposition.proofs.counting.count_pieces.Tie as tie
 
 returns : tie.Need-returns
 unfolding counts first-counts
-returns c =
-    rw (
-      c .joined .ensures,
-      c .before .with-rows .ensures,
-      c .before .before .count-triangles .ensures,
-      c .before .before .before .rest .ensures,
-    )
+returns c = cc
 
 pub count-pieces-spec : {M : Type 1} → statement M
 count-pieces-spec =

@@ -5,13 +5,7 @@ use Rattle.decomposition.proofs.counting.with_rows.Tie as tie
 
 returns : tie.Need-returns
 unfolding with-rows
-returns c =
-    rw (
-      c .before .before .before .smaller .ensures,
-      c .before .before .smaller2 .ensures,
-      c .before .smaller3 .ensures,
-      c .smaller4 .ensures,
-    )
+returns c = cc
 
 pub with-rows-spec : {M : Type 1} → statement M
 with-rows-spec = tie.close (tie.spec (λ c κs. tt) (λ c κs. tt) (λ c κs. tt) (λ c κs. tt) returns)

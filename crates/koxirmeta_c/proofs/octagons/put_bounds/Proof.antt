@@ -36,8 +36,9 @@ same-length c = simp length-set
 returns : tie.Need-returns
 unfolding bounds-of
 returns c =
-    let s = c .before .before .before .before .before .before .before .before in
-    written (bounds-of (back w32 (s .args .o))) (s .args .out .now) (s .pre) ∙ stored s
+    let at-c4 = c .before .before .before .before in
+    let at-start = at-c4 .before .before .before .before in
+    written (bounds-of (back w32 (at-start .args .o))) (at-start .args .out .now) (at-start .pre) ∙ stored at-start
 
 pub put-bounds-spec : {M : Type 1} → statement M
 put-bounds-spec =

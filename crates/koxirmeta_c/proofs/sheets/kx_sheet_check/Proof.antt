@@ -1,16 +1,11 @@
--- `kx_sheet_check` meets its contract: the two cases of a check. Assumes nothing.
-use mathlib.Core.Path.{refl, sym, _∙_, ap}
+-- `kx_sheet_check` meets its contract. Assumes nothing.
 use borrow.Author.Needs.{needs}
-use Rattle.sheet.specs.Answers.{count-of}
-use Rattle.koxirmeta_c.proofs.Fitting.{same, gives, keeps}
+use Rattle.koxirmeta_c.proofs.Fitting.{same}
 use Rattle.koxirmeta_c.proofs.sheets.kx_sheet_check.Statement.{statement}
 use Rattle.koxirmeta_c.proofs.sheets.kx_sheet_check.Tie as tie
 
 returns : tie.Need-returns
-returns c = let n = c .before in same (sym (ap count-of (n .n .given .1)) ∙ n .before .before .check .ensures) (gives _ refl)
-
-returns-2 : tie.Need-returns-2
-returns-2 c = let k = c .before in same (sym (ap count-of (k .k .given .1)) ∙ k .before .before .check .ensures) (keeps _)
+returns c = same (c .before .before .check .ensures) (c .give-count .ensures)
 
 pub kx-sheet-check-spec : {M : Type 1} → statement M
-kx-sheet-check-spec = tie.close (tie.spec (λ c κs. search needs) (λ c. search needs) (λ c. search needs) returns returns-2)
+kx-sheet-check-spec = tie.close (tie.spec (λ c κs. search needs) (λ c κs. search needs) returns)

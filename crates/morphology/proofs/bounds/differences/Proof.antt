@@ -1,59 +1,45 @@
--- `differences` meets its contract: eight calls, bound for bound. Assumes nothing.
-use mathlib.Core.Path.{_≡_, _∙_, ap₂}
+-- `differences` meets its contract: eight differences, bound for bound. `search` finds a place among those before. Assumes nothing.
+use mathlib.Core.Path.{_≡_}
 use mir.Syntax.{w32}
 use Rattle.integers.proofs.Range.{signs}
 use Rattle.octagon.specs.Widths.{Held}
-use Rattle.octagon.proofs.Fields.{back, back-is, stored}
+use Rattle.octagon.proofs.Fields.{back}
 use Rattle.morphology.specs.Operations.{differences}
+use Rattle.morphology.proofs.ReadBack.{made-held, made-is}
 use Rattle.morphology.proofs.bounds.differences.Statement.{statement}
 use Rattle.morphology.proofs.bounds.differences.Tie as tie
 
-held-a : (c : tie.Start) → Held w32 (c .args .a)
-held-a c = search signs
+made : (c : tie.Start) → Held w32 (differences (back w32 (c .args .a)) (back w32 (c .args .b)))
+made c = made-held differences (c .args .a) (c .args .b) (search signs) (search signs) (c .pre)
 
-held-b : (c : tie.Start) → Held w32 (c .args .b)
-held-b c = search signs
+kept : (c : tie.Start) → back w32 (differences (back w32 (c .args .a)) (back w32 (c .args .b))) ≡ differences (c .args .a) (c .args .b)
+kept c = made-is differences (c .args .a) (c .args .b) (search signs) (search signs) (c .pre)
 
--- the bounds as they are read back
-same : (c : tie.Start) → differences (back w32 (c .args .a)) (back w32 (c .args .b)) ≡ differences (c .args .a) (c .args .b)
-same c = ap₂ differences (back-is w32 (c .args .a) (held-a c)) (back-is w32 (c .args .b) (held-b c))
+-- the start, from where the second, the fourth and the sixth bounds are read
+abbrev from1 : tie.After-struct-told4 → tie.Start
+from1 c = search
 
-ready : (c : tie.Start) → Held w32 (differences (back w32 (c .args .a)) (back w32 (c .args .b)))
-ready c = rw (same c) (c .pre)
+abbrev from3 : tie.After-struct-told8 → tie.Start
+from3 c = search from1
+
+abbrev from5 : tie.After-struct-told12 → tie.Start
+from5 c = search from3
 
 returns : tie.Need-returns
 unfolding differences
-returns c =
-    let k6 = c .before .before .before in
-    let k5 = k6 .before .before .before in
-    let k4 = k5 .before .before .before in
-    let k3 = k4 .before .before .before in
-    let k2 = k3 .before .before .before in
-    let k1 = k2 .before .before .before in
-    let k0 = k1 .before .before .before in
-    let s = k0 .before .before .before in
-    stored w32 (ready s)
-    (k0 .subtract .ensures)
-    (k1 .subtract2 .ensures)
-    (k2 .subtract3 .ensures)
-    (k3 .subtract4 .ensures)
-    (k4 .subtract5 .ensures)
-    (k5 .subtract6 .ensures)
-    (k6 .subtract7 .ensures)
-    (c .subtract8 .ensures)
-    ∙ same s
+returns c = kept (search from5)
 
 pub differences-spec : {M : Type 1} → statement M
 unfolding differences
 differences-spec =
     tie.close
     (tie.spec
-    (λ c κs. ready (c .before .before) .held0)
-    (λ c κs. ready (c .before .before .before .before .before) .held1)
-    (λ c κs. ready (c .before .before .before .before .before .before .before .before) .held2)
-    (λ c κs. ready (c .before .before .before .before .before .before .before .before .before .before .before) .held3)
-    (λ c κs. ready (c .before .before .before .before .before .before .before .before .before .before .before .before .before .before) .held4)
-    (λ c κs. ready (c .before .before .before .before .before .before .before .before .before .before .before .before .before .before .before .before .before) .held5)
-    (λ c κs. ready (c .before .before .before .before .before .before .before .before .before .before .before .before .before .before .before .before .before .before .before .before) .held6)
-    (λ c κs. ready (c .before .before .before .before .before .before .before .before .before .before .before .before .before .before .before .before .before .before .before .before .before .before .before) .held7)
+    (λ c. made (search) .held0)
+    (λ c. made (search) .held1)
+    (λ c. made (search from1) .held2)
+    (λ c. made (search from1) .held3)
+    (λ c. made (search from3) .held4)
+    (λ c. made (search from3) .held5)
+    (λ c. made (search from5) .held6)
+    (λ c. made (search from5) .held7)
     returns)

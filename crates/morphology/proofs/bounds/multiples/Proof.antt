@@ -18,6 +18,10 @@ same c = ap (multiples (c .args .n)) (back-is w32 (c .args .b) (held c))
 ready : (c : tie.Start) → Held w32 (multiples (c .args .n) (back w32 (c .args .b)))
 ready c = rw (same c) (c .pre)
 
+-- `search` finds the start among the places before a call; from the later calls it is reached by the fourth
+abbrev start-of : tie.After-multiple4 → tie.Start
+start-of c = search
+
 returns : tie.Need-returns
 unfolding multiples
 returns c =
@@ -45,12 +49,12 @@ unfolding multiples
 multiples-spec =
     tie.close
     (tie.spec
-    (λ c κs. ready (c .before) .held0)
-    (λ c κs. ready (c .before .before .before) .held1)
-    (λ c κs. ready (c .before .before .before .before .before) .held2)
-    (λ c κs. ready (c .before .before .before .before .before .before .before) .held3)
-    (λ c κs. ready (c .before .before .before .before .before .before .before .before .before) .held4)
-    (λ c κs. ready (c .before .before .before .before .before .before .before .before .before .before .before) .held5)
-    (λ c κs. ready (c .before .before .before .before .before .before .before .before .before .before .before .before .before) .held6)
-    (λ c κs. ready (c .before .before .before .before .before .before .before .before .before .before .before .before .before .before .before) .held7)
+    (λ c κs. ready (search) .held0)
+    (λ c κs. ready (search) .held1)
+    (λ c κs. ready (search) .held2)
+    (λ c κs. ready (search) .held3)
+    (λ c κs. ready (search start-of) .held4)
+    (λ c κs. ready (search start-of) .held5)
+    (λ c κs. ready (search start-of) .held6)
+    (λ c κs. ready (search start-of) .held7)
     returns)

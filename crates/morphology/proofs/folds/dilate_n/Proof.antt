@@ -1,73 +1,74 @@
 -- `dilate_n` meets its contract: refusals in document 01's order, else the sums with n times the element's bounds. Assumes nothing.
-use mathlib.Core.Path.{_≡_, sym, _∙_, ap}
-use mathlib.Core.Bool.{Bool, _&&_}
-use Prim.Native.Nat.{ℕ, _≤_}
+use mathlib.Core.Path.{refl, _∙_, ap}
+use Prim.Native.Nat.{_≤_}
 use lib.Dec.{ltb}
 use borrow.Author.Needs.{needs}
-use Rattle.octagon.specs.Outcome.{accepted}
-use Rattle.octagon.specs.NormalForm.{normalised, placed}
-use Rattle.octagon.specs.Answers.{outcome}
+use Rattle.integers.proofs.Range.{told, and-is}
+use Rattle.octagon.specs.NormalForm.{placed}
 use Rattle.morphology.specs.Operations.{sums}
-use Rattle.morphology.specs.Folds.{fold-limit}
-use Rattle.morphology.proofs.Calls.{is-accepted, is-refused, dilation-n-of-rows, dilation-n-of-others}
+use Rattle.morphology.specs.Folds.{fold-limit, dilation-n}
+use Rattle.morphology.proofs.Operands.{Accepted}
+use Rattle.morphology.proofs.Calls.{is-accepted, step-refused, step-accepted, both-accepted, chosen, not-chosen, folds-refused, folds-taken}
 use Rattle.morphology.proofs.Widths.{multiples-held, sums-folded-held}
-use Rattle.morphology.proofs.FoldedDilations.{dilation-n-too-many, dilation-n-first, dilation-n-second}
 use Rattle.morphology.proofs.folds.dilate_n.Statement.{statement}
 use Rattle.morphology.proofs.folds.dilate_n.Tie as tie
 
+-- where the code began, where it has few enough folds, and where it has the first operand: `search` finds the place among those before
+abbrev at-start : tie.After-second → tie.Start
+at-start t = search
+
+abbrev at-few : tie.After-second → tie.Else1
+at-few t = search
+
+abbrev at-first : tie.After-second → tie.After-first
+at-first t = search
+
 -- the operands as the code has them, normalised; and the number of folds is within the limit
-first-is : (t : tie.After-second) → normalised (t .before .before .before .before .before .before .before .before .args .plot) ≡ accepted (t .before .before .before .before .first .given .0 .0)
-first-is t = let b = t .before .before .before .before in is-accepted (b .before .before .normalise .ensures) (b .first .given .1)
+operands : (t : tie.After-second) → Accepted (at-start t .args .plot) (at-start t .args .element) (at-first t .first .given .0 .0) (t .second .given .0 .0)
+operands t = record { of-p = search is-accepted; of-f = search is-accepted }
 
-second-is : (t : tie.After-second) → normalised (t .before .before .before .before .before .before .before .before .args .element) ≡ accepted (t .second .given .0 .0)
-second-is t = is-accepted (t .before .before .normalise2 .ensures) (t .second .given .1)
-
-few : (t : tie.After-second) → t .before .before .before .before .before .before .before .before .args .n ≤ fold-limit
-few t = t .before .before .before .before .before .before .before .if1 .left
+few : (t : tie.After-second) → at-start t .args .n ≤ fold-limit
+few t = at-few t .if1 .left
 
 -- too many folds, and a refused operand
 returns : tie.Need-returns
-returns c = sym (dilation-n-too-many _ _ _ .1 (c .if1 .taken))
+unfolding dilation-n
+returns c = folds-refused _ _ (c .if1 .taken)
 
 returns-2 : tie.Need-returns-2
-returns-2 c =
-    let e = c .enum-told .given .1 in
-    ap outcome e ∙ sym (dilation-n-first _ _ _ _ (c .before .before .before .if1 .left) (is-refused (c .before .before .normalise .ensures) e))
+unfolding dilation-n
+returns-2 c = search (folds-taken, step-refused)
 
 returns-3 : tie.Need-returns-3
-returns-3 c =
-    let e = c .enum-told2 .given .1 in
-    let b = c .before .before .before .before in
-    ap outcome e ∙
-    sym (dilation-n-second _ _ _ _ (b .before .before .before .if1 .left) (b .first .given .0 .0, is-accepted (b .before .before .normalise .ensures) (b .first .given .1))
-    (is-refused (c .before .before .normalise2 .ensures) e))
-
--- the test for opposed rows from the first fold on
-tested : (n : ℕ) {r x t : Bool} → (ltb 0 n && r) ≡ t → r ≡ x → (ltb 0 n && x) ≡ t
-tested n p q = rw (← q) p
+unfolding dilation-n
+returns-3 c = search (folds-taken, step-accepted, step-refused)
 
 -- two accepted operands
 returns-4 : tie.Need-returns-4
+unfolding dilation-n
 returns-4 c =
-    let t = c .before .before .before in
-    sym (dilation-n-of-rows _ _ _ _ _ (few t) (first-is t) (second-is t) (tested (t .before .before .before .before .before .before .before .before .args .n) (c .if2 .taken) (c .before .are-opposed .ensures)))
+    let t : tie.After-second = search in
+    folds-taken _ _ (few t) (both-accepted _ (operands t) (chosen _ (told (c .if2 .taken) (and-is {a = ltb 0 (at-start t .args .n)} refl (c .before .are-opposed .ensures)))))
 
 multiples-requires : tie.Need-multiples-requires
-multiples-requires c κs = let t = c .before .before .before in multiples-held _ _ _ _ (first-is t) (second-is t) _ (few t)
+multiples-requires c κs = let t : tie.After-second = search in multiples-held (operands t) _ (few t)
 
 sums-requires : tie.Need-sums-requires
 sums-requires c κs =
-    let t = c .before .before .before .before in
-    rw (c .multiples .ensures) (sums-folded-held _ _ _ _ (first-is t) (second-is t) _ (few t))
+    let t : tie.After-second = search in
+    rw (c .multiples .ensures) (sums-folded-held (operands t) _ (few t))
 
 returns-5 : tie.Need-returns-5
+unfolding dilation-n
 returns-5 c =
-    let s = c .before in
-    let m = s .before in
-    let d = m .before in
-    let t = d .before .before .before in
-    c .place .ensures ∙ ap placed (s .sums .ensures ∙ ap (sums _) (m .multiples .ensures)) ∙
-    sym (dilation-n-of-others _ _ _ _ _ (few t) (first-is t) (second-is t) (tested (t .before .before .before .before .before .before .before .before .args .n) (d .if2 .left) (d .before .are-opposed .ensures)))
+    let at-sums = c .before in
+    let at-multiples = at-sums .before in
+    let at-else = at-multiples .before in
+    let t : tie.After-second = search in
+    folds-taken _ _ (few t)
+    (both-accepted _ (operands t)
+    (not-chosen _ (told (at-else .if2 .left) (and-is {a = ltb 0 (at-start t .args .n)} refl (at-else .before .are-opposed .ensures)))
+    (c .place .ensures ∙ ap placed (at-sums .sums .ensures ∙ ap (sums _) (at-multiples .multiples .ensures)))))
 
 pub dilate-n-spec : {M : Type 1} → statement M
 dilate-n-spec =

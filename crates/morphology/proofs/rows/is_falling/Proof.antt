@@ -14,7 +14,7 @@ held c = search signs
 returns : tie.Need-returns
 unfolding is-falling
 returns c =
-    let s = c .before .before .before .before .before in
+    let s : tie.Start = search in
     c .is-row .ensures ∙ ap is-falling (back-is w32 (s .args .o) (held s))
 
 pub is-falling-spec : {M : Type 1} → statement M

@@ -14,7 +14,7 @@ held c = search signs
 returns : tie.Need-returns
 unfolding is-rising
 returns c =
-    let s = c .before .before .before .before .before in
+    let s : tie.Start = search in
     c .is-row .ensures ∙ ap is-rising (back-is w32 (s .args .o) (held s))
 
 pub is-rising-spec : {M : Type 1} → statement M

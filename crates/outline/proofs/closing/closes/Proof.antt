@@ -5,8 +5,7 @@ use Rattle.outline.proofs.closing.closes.Tie as tie
 
 returns : tie.Need-returns
 unfolding closes
-returns c =
-    rw (c .before .before .before .sum3 .ensures, c .before .before .sum32 .ensures, c .before .sum33 .ensures, c .sum34 .ensures)
+returns c = cc
 
 pub closes-spec : {M : Type 1} → statement M
 closes-spec = tie.close (tie.spec (λ c κs. tt) (λ c κs. tt) (λ c κs. tt) (λ c κs. tt) returns)

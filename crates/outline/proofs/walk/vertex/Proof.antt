@@ -1,4 +1,4 @@
--- `vertex` meets its contract. The loop's invariant: the cell is corner m of the walk. The measure is what is left of k.
+-- `vertex` meets its contract. The loop's invariant: the cell is vertex m of the walk. The measure is what is left of k.
 -- Assumes nothing.
 use mathlib.Core.Path.{_≡_, _∙_, ap}
 use Prim.Native.Nat.{ℕ, suc, _≤_, _<_, _-_, _^_}
@@ -14,7 +14,7 @@ use Rattle.integers.proofs.Range.{signs, kept, room-fits}
 use Rattle.outline.specs.Walk.{east, north, side, vertex}
 use Rattle.outline.specs.declared.Outline.{Outline}
 use Rattle.outline.specs.declared.walk.Cell.{Cell}
-use Rattle.outline.proofs.Range.{Held, corner-room}
+use Rattle.outline.proofs.Range.{Held, vertex-room}
 use Rattle.outline.proofs.walk.vertex.Statement.{statement}
 use Rattle.outline.proofs.walk.vertex.Tie as tie
 
@@ -39,16 +39,30 @@ read-back f p r q h = rw (kept w32 r, p, toZ-ofZ f, q, h)
 cell : (o : Outline) → Held o → (m k : ℕ) → k ≤ 8 → {x y : ℕ} → x ≡ ofZ w64 (vertex o m .x) → y ≡ ofZ w64 (vertex o m .y) → m ≡ k →
     _≡_ {A = Cell} (record { x = toZ w64 x; y = toZ w64 y }) (vertex o k)
 cell o h m k l e f q =
-    let r = corner-room o h k l in
+    let r = vertex-room o h k l in
     rw (e, f, q, toZ-ofZ (room-fits (r .room-x)), toZ-ofZ (room-fits (r .room-y)))
 
 held : (c : tie.Start Inv-loop μ-loop) → Held (c .args .o)
 held c = search needs
 
+-- from the loop back to the start
+abbrev at-read : tie.After-struct-told2 Inv-loop μ-loop → tie.Start Inv-loop μ-loop
+at-read c = c .before .before .before .before
+
+abbrev start : tie.At-loop Inv-loop μ-loop → tie.Start Inv-loop μ-loop
+start l = at-read (l .before)
+
+-- and from its two moves back to the loop
+abbrev at-east : tie.After-east Inv-loop μ-loop → tie.At-loop Inv-loop μ-loop
+at-east c = let at-side = c .before in at-side .before .before
+
+abbrev at-north : tie.After-north Inv-loop μ-loop → tie.At-loop Inv-loop μ-loop
+at-north c = let at-moved = c .before in at-east (at-moved .before)
+
 loop-holds : tie.Need-loop-holds Inv-loop μ-loop
 unfolding vertex
 loop-holds c =
-    let h = held (c .before .before .before .before) in
+    let h = held (at-read c) in
     (omega arith, rw (toZ-ofZ (h .held-i)), rw (toZ-ofZ (h .held-j)))
 
 side-requires : tie.Need-side-requires Inv-loop μ-loop
@@ -57,37 +71,34 @@ side-requires c κs = omega arith
 east-requires : tie.Need-east-requires Inv-loop μ-loop
 east-requires c κs = omega arith
 
--- the two moves of a turn lead to the next corner
+-- the two moves of a turn lead to the next vertex
 x-next : (c : tie.After-east Inv-loop μ-loop) →
-    toZ w64 (c .before .before .before .loop .x) +ℤ toZ w32 (ofZ w32 (c .east .result)) *ℤ pos (c .before .side .result)
-    ≡ vertex (c .before .before .before .before .before .before .before .before .args .o) (suc (c .before .before .before .loop .m)) .x
+    toZ w64 (at-east c .loop .x) +ℤ toZ w32 (ofZ w32 (c .east .result)) *ℤ pos (c .before .side .result)
+    ≡ vertex (start (at-east c) .args .o) (suc (at-east c .loop .m)) .x
 unfolding vertex
 x-next c =
-    let l = c .before .before .before in
-    let r = corner-room _ (held (l .before .before .before .before .before)) (l .loop .m) (omega arith) in
+    let l = at-east c in
+    let r = vertex-room _ (held (start l)) (l .loop .m) (omega arith) in
     read-back (room-fits (r .room-x)) (l .loop .inv .1) (c .east .ok) (c .east .ensures) (c .before .side .ensures)
 
 y-next : (c : tie.After-north Inv-loop μ-loop) →
-    toZ w64 (c .before .before .before .before .before .loop .y) +ℤ toZ w32 (ofZ w32 (c .north .result)) *ℤ pos (c .before .before .before .side .result)
-    ≡ vertex (c .before .before .before .before .before .before .before .before .before .before .args .o) (suc (c .before .before .before .before .before .loop .m)) .y
+    toZ w64 (at-north c .loop .y) +ℤ toZ w32 (ofZ w32 (c .north .result)) *ℤ pos (c .before .before .before .side .result)
+    ≡ vertex (start (at-north c) .args .o) (suc (at-north c .loop .m)) .y
 unfolding vertex
 y-next c =
-    let l = c .before .before .before .before .before in
-    let r = corner-room _ (held (l .before .before .before .before .before)) (l .loop .m) (omega arith) in
-    read-back (room-fits (r .room-y)) (l .loop .inv .2) (c .north .ok) (c .north .ensures) (c .before .before .before .side .ensures)
+    let l = at-north c in
+    let at-side = c .before .before .before in
+    let r = vertex-room _ (held (start l)) (l .loop .m) (omega arith) in
+    read-back (room-fits (r .room-y)) (l .loop .inv .2) (c .north .ok) (c .north .ensures) (at-side .side .ensures)
 
 moved-requires : tie.Need-moved-requires Inv-loop μ-loop
-moved-requires c κs =
-    let s = c .before .before .before .before .before .before .before .before in
-    rw (x-next c) (room-fits (corner-room _ (held s) _ (omega arith) .room-x))
+moved-requires c κs = rw (x-next c) (room-fits (vertex-room _ (held (start (at-east c))) _ (omega arith) .room-x))
 
 north-requires : tie.Need-north-requires Inv-loop μ-loop
 north-requires c κs = omega arith
 
 moved-requires-2 : tie.Need-moved-requires-2 Inv-loop μ-loop
-moved-requires-2 c κs =
-    let s = c .before .before .before .before .before .before .before .before .before .before in
-    rw (y-next c) (room-fits (corner-room _ (held s) _ (omega arith) .room-y))
+moved-requires-2 c κs = rw (y-next c) (room-fits (vertex-room _ (held (start (at-north c))) _ (omega arith) .room-y))
 
 add-m : tie.Need-add-m Inv-loop μ-loop
 add-m c = omega arith
@@ -97,17 +108,18 @@ loop-less c = omega arith
 
 loop-again : tie.Need-loop-again Inv-loop μ-loop
 loop-again c =
-    let m = c .before .before .before .before .before .before .loop .m in (
+    let north = c .before in
+    let east-moved = north .before in
+    let m = at-north north .loop .m in (
       omega arith,
-      ap (ofZ w64) (c .before .before .moved .ensures ∙ rw (← add-one m) at (x-next (c .before .before .before))),
-      ap (ofZ w64) (c .moved2 .ensures ∙ rw (← add-one m) at (y-next (c .before))),
+      ap (ofZ w64) (east-moved .moved .ensures ∙ rw (← add-one m) at (x-next (east-moved .before))),
+      ap (ofZ w64) (c .moved2 .ensures ∙ rw (← add-one m) at (y-next north)),
     )
 
 returns : tie.Need-returns Inv-loop μ-loop
 returns c =
-    let s = c .before .before .before .before .before .before in
-    let l = c .before .loop in
-    cell _ (held s) _ _ (omega arith) (l .inv .1) (l .inv .2) (omega arith)
+    let l = c .before in
+    cell _ (held (start l)) _ _ (omega arith) (l .loop .inv .1) (l .loop .inv .2) (omega arith)
 
 pub vertex-spec : {M : Type 1} → statement M
 vertex-spec =

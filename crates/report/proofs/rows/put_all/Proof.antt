@@ -6,8 +6,8 @@ use native.Mathlib.Omega.{arith}
 use lib.ListN.{length}
 use Rattle.sheet.specs.declared.Record.{Record}
 use Rattle.report.specs.Lines.{heading-line, last-line}
-use Rattle.report.specs.Listing.{plots, rows-of, total, full}
-use Rattle.report.proofs.Writing.{put-length, Left, left-parts, left-more, left-room}
+use Rattle.report.specs.Listing.{plots, rows-of, total-cells, full}
+use Rattle.report.proofs.Writing.{put-length, ToPut, to-put-parts, to-put-more, to-put-room}
 use Rattle.report.proofs.Plots.{length-plots}
 use Rattle.report.proofs.rows.put_all.Statement.{statement}
 use Rattle.report.proofs.rows.put_all.Tie as tie
@@ -15,41 +15,51 @@ use Rattle.report.proofs.rows.put_all.Tie as tie
 abbrev rs : tie.Start → List Record
 rs c = let a = c .args in plots (a .sheet .now) (a .len) (a .c)
 
-parts : (rs : List Record) (c : ℕ) → length rs ≡ c → full rs ≡ heading-line ++ (rows-of rs ++ last-line c (total rs))
+parts : (rs : List Record) (c : ℕ) → length rs ≡ c → full rs ≡ heading-line ++ (rows-of rs ++ last-line c (total-cells rs))
 unfolding full
 parts rs c e = rw e
 
--- what is left before the heading, after it, and after the rows
-left0 : (c : tie.Start) →
-    Left (c .args .text .now) 0 (full (rs c)) (c .args .text .now) 0 (heading-line ++ (rows-of (rs c) ++ last-line (c .args .c) (total (rs c))))
-left0 c =
+-- the start, after the heading and after the rows
+abbrev start1 : tie.After-put-heading → tie.Start
+start1 c = c .before .before .before .before
+
+abbrev start2 : tie.After-put-rows → tie.Start
+start2 c = start1 (c .before .before .before .before)
+
+-- what is still to be put before the heading, after it, and after the rows
+to-put0 : (c : tie.Start) →
+    ToPut (c .args .text .now) 0 (full (rs c)) (c .args .text .now) 0 (heading-line ++ (rows-of (rs c) ++ last-line (c .args .c) (total-cells (rs c))))
+to-put0 c =
     let a = c .args in
-    left-parts (a .text .now) 0 (full (rs c)) _ (parts (rs c) (a .c) (length-plots (a .sheet .now) (a .len) (a .c))) (omega (arith, c .pre .1))
+    to-put-parts (a .text .now) 0 (full (rs c)) _ (parts (rs c) (a .c) (length-plots (a .sheet .now) (a .len) (a .c))) (omega (arith, c .pre .1))
 
-left1 : (c : tie.After-put-heading) → let e = c .before .before .before .before in
-    Left (e .args .text .now) 0 (full (rs e)) (c .put-heading .last .0) (c .put-heading .result) (rows-of (rs e) ++ last-line (e .args .c) (total (rs e)))
-left1 c = left-more heading-line _ (left0 (c .before .before .before .before)) (c .put-heading .ensures)
+to-put1 : (c : tie.After-put-heading) → let e = start1 c in
+    ToPut (e .args .text .now) 0 (full (rs e)) (c .put-heading .last .0) (c .put-heading .result) (rows-of (rs e) ++ last-line (e .args .c) (total-cells (rs e)))
+to-put1 c = to-put-more heading-line _ (to-put0 (start1 c)) (c .put-heading .ensures)
 
-left2 : (c : tie.After-put-rows) → let e = c .before .before .before .before .before .before .before .before in
-    Left (e .args .text .now) 0 (full (rs e)) (c .put-rows .last .1 .1 .1 .0) (c .put-rows .result .next) (last-line (e .args .c) (c .put-rows .result .cells))
-left2 c =
+to-put2 : (c : tie.After-put-rows) → let e = start2 c in
+    ToPut (e .args .text .now) 0 (full (rs e)) (c .put-rows .last .1 .1 .1 .0) (c .put-rows .result .next) (last-line (e .args .c) (c .put-rows .result .cells))
+to-put2 c =
     let d = c .before .before .before .before in
-    rw (c .put-rows .ensures .1) (left-more (rows-of (rs (d .before .before .before .before))) _ (left1 d) (c .put-rows .ensures .0))
+    rw (c .put-rows .ensures .1) (to-put-more (rows-of (rs (start1 d))) _ (to-put1 d) (c .put-rows .ensures .0))
 
 put-rows-requires : tie.Need-put-rows-requires
 put-rows-requires c κs =
-    let e = c .before .before .before .before .before .before .before in
-    (e .pre .0, left-room (rows-of (rs e)) _ (left1 (c .before .before .before)))
+    let d = c .before .before .before in
+    let e = start1 d in
+    (e .pre .0, to-put-room (rows-of (rs e)) _ (to-put1 d))
 
 returns : tie.Need-returns
-returns c = left2 (c .before .before .before .before .before .before) .rest (c .before .before .put-last .ensures)
+returns c =
+    let at-last = c .before .before in
+    to-put2 (at-last .before .before .before .before) .rest (at-last .put-last .ensures)
 
 pub put-all-spec : {M : Type 1} → statement M
 put-all-spec =
     tie.close
     (tie.spec
-    (λ c κs. left-room heading-line _ (left0 (c .before .before .before)))
+    (λ c κs. to-put-room heading-line _ (to-put0 (c .before .before .before)))
     put-rows-requires
-    (λ c κs. left2 (c .before .before .before) .fits)
+    (λ c κs. to-put2 (c .before .before .before) .fits)
     (λ c. put-length (returns c))
     returns)

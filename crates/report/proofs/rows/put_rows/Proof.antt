@@ -8,24 +8,24 @@ use borrow.Author.Needs.{needs}
 use Rattle.octagon.specs.Outcome.{accepted}
 use Rattle.octagon.proofs.Outcomes.{accepted-same, accepted-not-refused}
 use Rattle.sheet.specs.declared.Record.{Record}
-use Rattle.sheet.specs.Answers.{record-of}
+use Rattle.sheet.specs.Answers.{record-outcome}
 use Rattle.sheet.specs.Checking.{read}
-use Rattle.sheet.proofs.Checks.{read-checked}
-use Rattle.report.specs.Listing.{plots, rows-of, total}
-use Rattle.report.proofs.Writing.{put-length, put-nothing, Left, left-all}
-use Rattle.report.proofs.Plots.{plot, length-plots, fetched-plot, total-most, rest, row-room, row-more, total-more, rest-end, total-end}
+use Rattle.sheet.proofs.ReadCases.{read-checked}
+use Rattle.report.specs.Listing.{plots, rows-of, total-cells}
+use Rattle.report.proofs.Writing.{put-length, put-nothing, ToPut, to-put-all}
+use Rattle.report.proofs.Plots.{plot, length-plots, fetched-plot, total-cells-most, rest, row-room, row-more, total-cells-more, rest-end, total-cells-end}
 use Rattle.report.proofs.rows.put_rows.Statement.{statement}
 use Rattle.report.proofs.rows.put_rows.Tie as tie
 
 abbrev Inv-loop : tie.InvT-loop
 Inv-loop sheet len c text₀ at next₀ sum₀ k₀ text next sum k =
-    (k ≤ c) × Left text₀ at (rows-of (plots sheet len c)) text next (rest (plots sheet len c) k) × (sum + total (drop k (plots sheet len c)) ≡ total (plots sheet len c))
+    (k ≤ c) × ToPut text₀ at (rows-of (plots sheet len c)) text next (rest (plots sheet len c) k) × (sum + total-cells (drop k (plots sheet len c)) ≡ total-cells (plots sheet len c))
 
 abbrev μ-loop : tie.MeasureT-loop
 μ-loop sheet len c text₀ at next₀ sum₀ k₀ text next sum k = c - k
 
 loop-holds : tie.Need-loop-holds Inv-loop μ-loop
-loop-holds c = let a = c .before .before .args in (omega arith, left-all (a .text .now) (a .at) _ (c .before .before .pre .1), omega arith)
+loop-holds c = let a = c .before .before .args in (omega arith, to-put-all (a .text .now) (a .at) _ (c .before .before .pre .1), omega arith)
 
 -- the plots, and the record that is read in a turn
 abbrev rs : tie.At-loop Inv-loop μ-loop → List Record
@@ -45,10 +45,10 @@ answer c =
 -- no record of a checked sheet is refused
 not-refused : (c : tie.After-enum-told Inv-loop μ-loop) → ⊥
 not-refused c =
-    accepted-not-refused (sym (answer (c .before .before .before)) ∙ sym (c .before .before .read .ensures) ∙ ap record-of (c .enum-told .given .1))
+    accepted-not-refused (sym (answer (c .before .before .before)) ∙ sym (c .before .before .read .ensures) ∙ ap record-outcome (c .enum-told .given .1))
 
 is-plot : (c : tie.After-r Inv-loop μ-loop) → c .r .given .0 .0 ≡ plot (rs (c .before .before .before .before)) (c .before .before .before .before .loop .k)
-is-plot c = accepted-same (sym (ap record-of (c .r .given .1)) ∙ c .before .before .read .ensures ∙ answer (c .before .before .before))
+is-plot c = accepted-same (sym (ap record-outcome (c .r .given .1)) ∙ c .before .before .read .ensures ∙ answer (c .before .before .before))
 
 put-row-requires : tie.Need-put-row-requires Inv-loop μ-loop
 put-row-requires c κs =
@@ -58,27 +58,31 @@ put-row-requires c κs =
 
 loop-again : tie.Need-loop-again Inv-loop μ-loop
 loop-again c =
-    let d = c .before .before .before .before .before .before in
+    let at-row = c .before .before in
+    let at-cells = at-row .before .before in
+    let d = at-cells .before .before in
     let l = d .before .before .before .before in
     let t = d .before .before .before .loop-test .taken in
-    let f = c .before .before .before .before .cells .ensures in
+    let f = at-cells .cells .ensures in
     let h : l .loop .k < length (rs l) = omega (arith, many l, t) in (
       omega (arith, t),
-      row-more (rs l) (l .loop .k) h _ (is-plot d) _ f (l .loop .inv .1) (c .before .before .put-row .ensures),
-      omega (arith, l .loop .inv .2, total-more (rs l) (l .loop .k) h _ (is-plot d) _ f),
+      row-more (rs l) (l .loop .k) h _ (is-plot d) _ f (l .loop .inv .1) (at-row .put-row .ensures),
+      omega (arith, l .loop .inv .2, total-cells-more (rs l) (l .loop .k) h _ (is-plot d) _ f),
     )
 
 add-sum : tie.Need-add-sum Inv-loop μ-loop
 add-sum c =
-    let l = c .before .before .before .before .before .before .before .before .before .before in
-    record { fits = omega (arith, loop-again c .2, total-most (rs l), many l, l .before .before .before .fits .c) }
+    let at-row = c .before .before in
+    let d = at-row .before .before .before .before in
+    let l = d .before .before .before .before in
+    record { fits = omega (arith, loop-again c .2, total-cells-most (rs l), many l, l .before .before .before .fits .c) }
 
 returns-2 : tie.Need-returns-2 Inv-loop μ-loop
 returns-2 c =
     let l = c .before in
     let h : length (rs l) ≤ l .loop .k = omega (arith, many l, c .loop-test .left) in (
       l .loop .inv .1 .rest (rw (rest-end (rs l) (l .loop .k) h) (put-nothing (l .loop .text) (l .loop .next) (omega (arith, l .loop .inv .1 .fits)))),
-      omega (arith, l .loop .inv .2, total-end (rs l) (l .loop .k) h),
+      omega (arith, l .loop .inv .2, total-cells-end (rs l) (l .loop .k) h),
     )
 
 pub put-rows-spec : {M : Type 1} → statement M

@@ -4,14 +4,14 @@ use borrow.Author.Needs.{needs}
 use Rattle.octagon.specs.Answers.{outcome}
 use Rattle.records.specs.Parts.{part}
 use Rattle.sheet.specs.Layout.{record-length, decoded}
-use Rattle.sheet.proofs.RecordBytes.{read-number}
+use Rattle.sheet.proofs.RecordBytes.{number-decoded}
 use Rattle.sheet.proofs.Surveys.{judged-number, judged-outline, judged-good}
 use Rattle.sheet.proofs.checking.judge.Statement.{statement}
 use Rattle.sheet.proofs.checking.judge.Tie as tie
 
 -- the number that was read is the record's
 number : (c : tie.After-key-at) → let a = c .before .before .args in c .key-at .result ≡ decoded (part (a .s .now) (a .at) record-length) .number
-number c = let a = c .before .before .args in c .key-at .ensures ∙ read-number (a .s .now) (a .at)
+number c = let a = c .before .before .args in c .key-at .ensures ∙ number-decoded (a .s .now) (a .at)
 
 returns : tie.Need-returns
 returns c = sym (judged-number _ _ _ (number (c .before)) (c .if1 .taken))

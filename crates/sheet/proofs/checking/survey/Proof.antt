@@ -6,7 +6,7 @@ use lib.ListN.{length}
 use borrow.Author.Needs.{needs}
 use Rattle.records.specs.Rows.{records}
 use Rattle.sheet.specs.Layout.{record-length}
-use Rattle.sheet.specs.Answers.{count-of}
+use Rattle.sheet.specs.Answers.{number-outcome}
 use Rattle.sheet.specs.Checking.{surveyed}
 use Rattle.sheet.proofs.Surveys.{survey-refused, survey-more, survey-end}
 use Rattle.sheet.proofs.checking.survey.Statement.{statement}
@@ -20,28 +20,32 @@ Inv-loop s first count p₀ before₀ left₀ p before left =
 abbrev μ-loop : tie.MeasureT-loop
 μ-loop s first count p₀ before₀ left₀ p before left = left
 
+-- the start, from the loop
+abbrev start-of : tie.At-loop Inv-loop μ-loop → tie.Start Inv-loop μ-loop
+start-of c = c .before .before
+
 returns : tie.Need-returns Inv-loop μ-loop
 returns c =
-    let l = c .before .before .before .before .loop in
-    let a = c .before .before .before .before .before .before .args in
-    let j = c .before .before in
-    let e = ap count-of (c .enum-told .given .1) in
-    e ∙ sym (l .inv .1 ∙ survey-refused (a .count) (l .before) (a .s .now) (l .p) (l .left) _ (j .before .loop-test .taken) (sym (j .judge .ensures) ∙ e))
+    let at-judge = c .before .before .before in
+    let at-turn = at-judge .before in
+    let l = at-turn .before .loop in
+    let e = sym (at-judge .judge .ensures) ∙ ap number-outcome (c .before .k .given .1) in
+    sym (l .inv .1 ∙ survey-refused _ (l .before) _ (l .p) (l .left) _ (at-turn .loop-test .taken) e)
 
 loop-again : tie.Need-loop-again Inv-loop μ-loop
 loop-again c =
-    let l = c .before .before .before .before .before .loop in
-    let a = c .before .before .before .before .before .before .before .args in
-    let j = c .before .before .before in
-    let e = sym (j .judge .ensures) ∙ ap count-of (c .before .answer .given .1) in (
+    let at-judge = c .before .before .before in
+    let at-turn = at-judge .before in
+    let l = at-turn .before .loop in
+    let a = start-of (at-turn .before) .args in (
       omega arith,
-      l .inv .1 ∙ survey-more (a .count) (l .before) (a .s .now) (l .p) (l .left) _ (j .before .loop-test .taken) e,
+      l .inv .1 ∙ survey-more (a .count) (l .before) (a .s .now) (l .p) (l .left) _ (at-turn .loop-test .taken) (sym (at-judge .judge .ensures) ∙ ap number-outcome (c .before .number .given .1)),
     )
 
 returns-2 : tie.Need-returns-2 Inv-loop μ-loop
 returns-2 c =
     let l = c .before .loop in
-    let a = c .before .before .before .args in
+    let a = start-of (c .before) .args in
     sym (l .inv .1 ∙ survey-end (a .count) (l .before) (a .s .now) (l .p) (l .left) (c .loop-test .left))
 
 pub survey-spec : {M : Type 1} → statement M
@@ -53,8 +57,8 @@ survey-spec =
     (λ c. (omega arith, refl))
     (λ c κs. omega arith)
     (λ c. search needs)
-    (λ c. search needs)
     returns
+    (λ c. search needs)
     (λ c. omega arith)
     (λ c. omega arith)
     (λ c. omega arith)

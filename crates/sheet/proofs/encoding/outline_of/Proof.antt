@@ -8,7 +8,8 @@ use Rattle.sheet.proofs.encoding.outline_of.Tie as tie
 
 returns : tie.Need-returns
 returns c =
-    let j = c .before .before .before .before .before .before .before .before in
+    let at-n0 = c .before .before .before .before .before .before .before in
+    let j = at-n0 .before in
     let i = j .before .before in
     rw (kept w32 (i .to-signed .ok) ∙ i .to-signed .ensures, kept w32 (j .to-signed2 .ok) ∙ j .to-signed2 .ensures)
 

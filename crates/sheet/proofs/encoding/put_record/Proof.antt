@@ -10,11 +10,12 @@ use Rattle.sheet.proofs.encoding.put_record.Tie as tie
 
 returns : tie.Need-returns
 returns c =
-    let s = c .before .before .before .before .before .before .before .before .before .before .before .before in
+    let at-pack = c .before .before in
+    let j = at-pack .before .before .before .before in
+    let i = j .before in
+    let s = i .before .before .before .before .before in
     let r = s .args .r in
-    let i = c .before .before .before .before .before .before .before in
-    let j = c .before .before .before .before .before .before in
-    c .before .before .pack .ensures
+    at-pack .pack .ensures
     ∙ ap (splice _ _) (written-record r _ _
     (i .to-twos .ensures ∙ ap (twos 2) (read-back (r .outline .i) (record { sfits = s .pre .1 .fits-i })))
     (j .to-twos2 .ensures ∙ ap (twos 2) (read-back (r .outline .j) (record { sfits = s .pre .1 .fits-j }))))

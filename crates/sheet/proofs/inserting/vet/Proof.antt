@@ -2,20 +2,20 @@
 use mathlib.Core.Path.{_≡_, sym, ap, _∙_}
 use borrow.Author.Needs.{needs}
 use Rattle.octagon.specs.Outcome.{accepted}
-use Rattle.sheet.specs.Answers.{count-of}
+use Rattle.sheet.specs.Answers.{count-outcome}
 use Rattle.sheet.specs.Checking.{checked}
-use Rattle.sheet.proofs.Checks.{checked-known}
+use Rattle.sheet.proofs.Checks.{checked-holds}
 use Rattle.sheet.proofs.Inserts.{vet-check, vet-admit}
 use Rattle.sheet.proofs.inserting.vet.Statement.{statement}
 use Rattle.sheet.proofs.inserting.vet.Tie as tie
 
 -- the count that the check answers
 counted : (c : tie.After-found) → let a = c .before .before .before .before .args in checked (a .sheet .now) (a .len) ≡ accepted (c .found .given .0 .0)
-counted c = sym (c .before .before .check .ensures) ∙ ap count-of (c .found .given .1)
+counted c = sym (c .before .before .check .ensures) ∙ ap count-outcome (c .found .given .1)
 
 returns : tie.Need-returns
 returns c =
-    let e = ap count-of (c .enum-told .given .1) in
+    let e = ap count-outcome (c .enum-told .given .1) in
     let a = c .before .before .before .before .args in
     e ∙ sym (vet-check (a .sheet .now) (a .len) (a .v) (sym (c .before .before .check .ensures) ∙ e))
 
@@ -30,5 +30,5 @@ vet-spec =
     (λ c. search needs)
     (λ c. search needs)
     returns
-    (λ c κs. let a = c .before .before .before .before .before .args in checked-known (a .sheet .now) (a .len) _ (counted (c .before)))
+    (λ c κs. let a = c .before .before .before .before .before .args in checked-holds (a .sheet .now) (a .len) _ (counted (c .before)))
     returns-2)

@@ -5,16 +5,16 @@ use native.Mathlib.Omega.{arith}
 use native.Mathlib.Nat.{le-antisymm}
 use lib.ListN.{length, drop, getD}
 use lib.Seq.{drop-length}
-use Rattle.records.specs.Numbers.{total, packed}
+use Rattle.records.specs.Numbers.{total-width, packed}
 use Rattle.records.specs.Parts.{splice}
 use Rattle.records.proofs.Splices.{splice-nil}
-use Rattle.records.proofs.Steps.{total-more, pack-more}
+use Rattle.records.proofs.Steps.{total-width-more, pack-more}
 use Rattle.sheet.proofs.numbers.pack.Statement.{statement}
 use Rattle.sheet.proofs.numbers.pack.Tie as tie
 
 abbrev Inv-loop : tie.InvT-loop
 Inv-loop s₀ at widths values p₀ k₀ s p k =
-    (k ≤ length widths) × (p + total (drop k widths) ≤ length s) × (length s ≡ length s₀)
+    (k ≤ length widths) × (p + total-width (drop k widths) ≤ length s) × (length s ≡ length s₀)
     × (splice s p (packed (drop k widths) (drop k values)) ≡ splice s₀ at (packed widths values))
 
 abbrev μ-loop : tie.MeasureT-loop
@@ -23,27 +23,32 @@ abbrev μ-loop : tie.MeasureT-loop
 loop-holds : tie.Need-loop-holds Inv-loop μ-loop
 loop-holds c = (omega arith, omega arith, refl, refl)
 
+-- the start, from the loop
+abbrev start-of : tie.At-loop Inv-loop μ-loop → tie.Start Inv-loop μ-loop
+start-of c = c .before .before .before .before
+
 -- the field that is next lies within s
-within : (c : tie.In-loop Inv-loop μ-loop) → let l = c .before .loop in
-    let ws = c .before .before .before .before .before .args .widths .now in
-    total (drop (l .k) ws) ≡ getD ws (l .k) 0 + total (drop (l .k + 1) ws)
-within c = total-more (c .before .before .before .before .before .args .widths .now) (c .before .loop .k) (c .loop-test .taken)
+within : (c : tie.In-loop Inv-loop μ-loop) → let ws = start-of (c .before) .args .widths .now in total-width (drop (c .before .loop .k) ws) ≡ getD ws (c .before .loop .k) 0 + total-width (drop (c .before .loop .k + 1) ws)
+within c = total-width-more (start-of (c .before) .args .widths .now) (c .before .loop .k) (c .loop-test .taken)
 
 put-number-requires : tie.Need-put-number-requires Inv-loop μ-loop
-put-number-requires c κs = omega (arith, within (c .before .before .before), c .before .before .before .before .loop .inv)
+put-number-requires c κs = let at-turn = c .before .before .before in omega (arith, within at-turn, at-turn .before .loop .inv)
 
 add-p : tie.Need-add-p Inv-loop μ-loop
 add-p c =
-    let i = c .before .before .before .before .before .before in
-    omega (arith, within i, i .before .loop .inv, i .before .before .before .before .before .good)
+    let at-put = c .before .before in
+    let at-turn = at-put .before .before .before .before in
+    omega (arith, within at-turn, at-turn .before .loop .inv, start-of (at-turn .before) .good)
 
 loop-again : tie.Need-loop-again Inv-loop μ-loop
 loop-again c =
-    let l = c .before .before .before .before .before .before .before .loop in
-    let a = c .before .before .before .before .before .before .before .before .before .before .before .args in
-    let n = c .before .before .put-number .kept .0 in
-    let w = within (c .before .before .before .before .before .before) in
-    let e = c .before .before .put-number .ensures in (
+    let at-put = c .before .before in
+    let at-turn = at-put .before .before .before .before in
+    let l = at-turn .before .loop in
+    let a = start-of (at-turn .before) .args in
+    let n = at-put .put-number .kept .0 in
+    let w = within at-turn in
+    let e = at-put .put-number .ensures in (
       omega arith,
       omega arith,
       omega arith,
@@ -53,7 +58,7 @@ loop-again c =
 returns : tie.Need-returns Inv-loop μ-loop
 returns c =
     let l = c .before .loop in
-    let ws = c .before .before .before .before .before .args .widths .now in
+    let ws = start-of (c .before) .args .widths .now in
     let e : l .k ≡ length ws = le-antisymm (l .inv .0) (c .loop-test .left) in
     sym (splice-nil (l .s) (l .p)) ∙ (rw (e, drop-length) at (l .inv .3))
 
@@ -64,9 +69,9 @@ pack-spec =
     Inv-loop
     μ-loop
     loop-holds
-    (λ c. omega (arith, c .before .before .before .before .before .good))
+    (λ c. omega (arith, start-of (c .before) .good))
     (λ c. omega arith)
-    (λ c. omega (arith, c .before .before .before .before .before .before .before .good))
+    (λ c. let at-loop = c .before .before .before in omega (arith, start-of at-loop .good))
     (λ c. omega arith)
     put-number-requires
     add-p

@@ -2,12 +2,12 @@
 use mathlib.Core.Path.{_≡_, _∙_}
 use Prim.Native.Nat.{_+_, _-_, _<_}
 use native.Mathlib.Omega.{arith}
-use Rattle.records.proofs.Steps.{Read, leaves-room, read-more}
+use Rattle.records.proofs.Steps.{NumberFrom, leaves-room, number-from-more}
 use Rattle.sheet.proofs.numbers.read_number.Statement.{statement}
 use Rattle.sheet.proofs.numbers.read_number.Tie as tie
 
 abbrev Inv-loop : tie.InvT-loop
-Inv-loop s at width v₀ i₀ v i = Read s at width i v
+Inv-loop s at width v₀ i₀ v i = NumberFrom s at width i v
 
 abbrev μ-loop : tie.MeasureT-loop
 μ-loop s at width v₀ i₀ v i = i
@@ -30,7 +30,7 @@ loop-again c =
     let l = c .before .before .loop in
     let s = c .before .before .before .before in
     let a = s .args in
-    read-more (a .s .now) (a .at) (a .width) (l .i) (l .v) (c .byte-at .result) (s .pre .1) (c .before .loop-test .taken) (l .inv) (c .byte-at .ensures .0) (c .byte-at .ensures .1)
+    number-from-more (a .s .now) (a .at) (a .width) (l .i) (l .v) (c .byte-at .result) (s .pre .1) (c .before .loop-test .taken) (l .inv) (c .byte-at .ensures .0) (c .byte-at .ensures .1)
 
 returns : tie.Need-returns Inv-loop μ-loop
 returns c =

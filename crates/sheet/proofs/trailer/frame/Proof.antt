@@ -1,29 +1,38 @@
 -- `frame` meets its contract. Assumes nothing.
-use mathlib.Core.Path.{ap, _∙_}
+use mathlib.Core.Path.{_≡_, sym, ap, _∙_}
+use mathlib.Core.Bool.{false}
 use native.Mathlib.Omega.{arith}
-use Rattle.sheet.specs.Checking.{stated, framed}
-use Rattle.sheet.proofs.Frames.{Sized, size-passed}
+use borrow.Author.Needs.{needs}
+use Rattle.sheet.specs.Checking.{is-bad-length, stated, framed}
+use Rattle.sheet.specs.Cases.{GoodLength}
+use Rattle.sheet.proofs.Frames.{good-length}
 use Rattle.sheet.proofs.trailer.frame.Statement.{statement}
 use Rattle.sheet.proofs.trailer.frame.Tie as tie
 
 returns : tie.Need-returns
 unfolding framed
-returns c = rw (c .if1 .taken)
+returns c = rw (sym (c .before .is-bad-length .ensures) ∙ c .if1 .taken)
 
 -- the length is one that a sheet may have
-sized : (c : tie.Else1) → Sized (c .before .before .args .sheet .now) (c .before .before .args .len)
-sized c = size-passed (c .before .before .args .sheet .now) (c .before .before .args .len) (c .if1 .left)
+passed : (c : tie.Else1) → let a = c .before .before .before .args in is-bad-length (a .sheet .now) (a .len) ≡ false
+passed c = sym (c .before .is-bad-length .ensures) ∙ c .if1 .left
+
+good : (c : tie.Else1) → let a = c .before .before .before .args in GoodLength (a .sheet .now) (a .len)
+good c = let a = c .before .before .before .args in good-length (a .sheet .now) (a .len) (passed c)
 
 returns-2 : tie.Need-returns-2
 unfolding framed
-returns-2 c = c .state .ensures ∙ rw (c .before .before .if1 .left) (ap (stated _) (c .before .read-trailer .ensures))
+returns-2 c =
+    let at-read = c .before in
+    c .state .ensures ∙ rw (passed (at-read .before)) (ap (stated _) (at-read .read-trailer .ensures))
 
 pub frame-spec : {M : Type 1} → statement M
 frame-spec =
     tie.close
     (tie.spec
+    (λ c κs. search needs)
     returns
-    (λ c. omega (arith, sized c))
-    (λ c κs. omega (arith, sized c))
-    (λ c κs. omega (arith, sized (c .before)))
+    (λ c. omega (arith, good c))
+    (λ c κs. omega (arith, good c))
+    (λ c κs. omega (arith, good (c .before)))
     returns-2)

@@ -1,0 +1,49 @@
+/* What the parts of the comparison share: random inputs, and the count of what was compared. */
+#ifndef COMPARE_H
+#define COMPARE_H
+#include "../bindings/koxirmeta.h"
+#include "oracle.h"
+
+/* ---- inputs (inputs.c) */
+
+uint32_t any(void);
+int32_t from(int32_t low, int32_t high);
+/* Bounds: small ones, often moved to an edge of the map, slack or damaged; else any. */
+void random_bounds(int32_t c[8], int size, int row);
+/* An outline that mostly closes, with sides of about this size. */
+void random_outline(int32_t start[2], uint32_t n[8], uint32_t size);
+/* A plot whose outline mostly fits a record. */
+void random_plot(plot *p);
+
+/* ---- what was compared (compare.c) */
+
+extern uint64_t octagons_by_cells, pairs_by_cells, outlines_by_cells, splits_by_cells, listings;
+/* Writes the difference and ends the program. */
+void differ(const char *call, const int32_t *p, const int32_t *f, uint32_t got, uint32_t want);
+void count_answer(uint32_t number);
+/* Compares the numbers of a call, and counts it; `same` is whether all that was lent is as it should be. */
+void agree(const char *call, const int32_t *p, uint32_t got, uint32_t want, int same);
+
+/* ---- octagons (compare_octagons.c) */
+
+/* The normal form of bounds, by search, and by cells too where they are few. */
+answer normal(const int32_t c[8]);
+/* A slice to write to: each place holds -1 less its number. */
+int32_t *cleared(int32_t out[8]);
+/* An answer with octagon: the number, and every place of `out`, which was cleared before. */
+void check(const char *call, const int32_t *p, const int32_t *f, uint32_t got, const int32_t out[8], answer want);
+
+/* ---- the parts (compare_octagons.c, compare_pairs.c, compare_lengths.c, compare_sheets.c) */
+
+void compare_one(const int32_t c[8], uint64_t round);
+void compare_two(const int32_t p[8], const int32_t f[8]);
+void compare_outline(void);
+/* Slices of wrong lengths. */
+void compare_lengths(const int32_t p[8], const int32_t f[8]);
+/* The constants of koxirmeta.h: what is answered at each limit, and one past it. */
+void compare_constants(void);
+void compare_sheet(void);
+/* A sheet that is filled to the limit, by inserts in any order. */
+void compare_full(void);
+
+#endif

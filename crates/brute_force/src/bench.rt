@@ -1,0 +1,78 @@
+// The bench: one array of numbers, which holds all that the program works on. Signed numbers are counted from LIFT.
+//
+// First come rows, 16 numbers apart: a call's tally at 16 times its number, then those that are named here. Then come four sets, each 1 or 0
+// for the SIZE cells of a window and a 0 for what is off it; a set has a number, and its window a place in the row of the places.
+ghost use Prim.Native.Nat.{_<_};
+
+pub type Bench = [usize; 9944];
+
+// The operands, eight bounds each, the plot's and then the element's.
+pub const OPERANDS: usize = 192;
+
+// What is expected: up to ten numbers, and then the refusal number, or 0 where the call is accepted.
+pub const EXPECTED: usize = 224;
+
+pub const NUMBER: usize = 234;
+
+// An outline: eight sides and the start.
+pub const OUTLINE: usize = 240;
+
+// The bounds that a set or an outline has.
+pub const BOUNDS: usize = 256;
+
+pub const PLACES: usize = 272;
+
+// Which pair is at hand.
+pub const PAIR: usize = 276;
+
+// The state of the sequence of draws, and ten draws.
+pub const DRAWS: usize = 288;
+
+// A row that stays 0.
+pub const ZEROS: usize = 304;
+
+// A corner: its column and row, and zeros.
+pub const CORNER: usize = 320;
+
+// Where the sets begin: the plot's cells, the element's, those worked out so far, and those of the next step.
+pub const SETS: usize = 336;
+
+pub const SPAN: usize = 2402;
+
+pub const PLOT: usize = 0;
+
+pub const ELEMENT: usize = 1;
+
+pub const RESULT: usize = 2;
+
+pub const NEXT: usize = 3;
+
+pub const LIFT: usize = 4294967296;
+
+// Number k of a row.
+pub fn get(bench: &Bench, row: usize, k: usize) -> usize
+    requires { ⌜ row < 336 ⌝ }
+    requires { ⌜ k < 16 ⌝ }
+{
+    bench[row + k]
+}
+
+// A signed number of the library counted from LIFT.
+pub fn lifted(z: i32) -> usize {
+    let n = integers::magnitude(z) as usize;
+    if z < 0 {
+        return std::num::wrapping_sub_usize(LIFT, n);
+    }
+    std::num::wrapping_add_usize(LIFT, n)
+}
+
+// A number counted from LIFT as a signed one, or the nearest that there is.
+pub fn lowered(n: usize) -> i32 {
+    if n < 2147483648 {
+        return i32::MIN;
+    }
+    if 6442450943 < n {
+        return i32::MAX;
+    }
+    (n as i64 - 4294967296) as i32
+}

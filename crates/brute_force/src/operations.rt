@@ -1,0 +1,116 @@
+// Dilation, erosion, opening, closing and the folds of one pair of octagons beside the enumerated sets.
+ghost use Prim.Native.Nat.{_<_, _≤_};
+use crate::answers;
+use crate::answers::NOTHING_LEFT;
+use crate::answers::octagon;
+use crate::bench::BOUNDS;
+use crate::bench::Bench;
+use crate::bench::OPERANDS;
+use crate::bench::PLACES;
+use crate::bench::PLOT;
+use crate::bench::RESULT;
+use crate::sets;
+use crate::tally;
+use crate::tally::CALLS;
+use crate::tally::CLOSING;
+use crate::tally::DILATE;
+use crate::tally::DILATE_N;
+use crate::tally::ERODE;
+use crate::tally::OPENING;
+use morphology::folds::dilate_n;
+use morphology::folds::erode_n;
+use octagon::Answer;
+use octagon::Octagon;
+
+// What the library answers, with n folds where the operation has folds.
+fn given(call: usize, n: u32, plot: Octagon, element: Octagon) -> Answer {
+    match call {
+        DILATE => morphology::dilate(plot, element),
+        ERODE => morphology::erode(plot, element),
+        CLOSING => morphology::closing(plot, element),
+        OPENING => morphology::opening(plot, element),
+        DILATE_N => dilate_n(plot, element, n),
+        _ => erode_n(plot, element, n),
+    }
+}
+
+// An operation beside what is expected of it.
+fn compare(bench: &mut Bench, call: usize, n: u32)
+    requires { ⌜ call < 12 ⌝ }
+{
+    let a = given(
+        call,
+        n,
+        octagon(bench, OPERANDS),
+        octagon(bench, OPERANDS + 16),
+    );
+    tally::note(bench, call, answers::is_answer(bench, a));
+}
+
+// An operation beside the result. Gives the refusal number, or 0.
+fn compare_result(bench: &mut Bench, call: usize, n: u32) -> usize
+    requires { ⌜ call < 12 ⌝ }
+{
+    let number = answers::expect(bench, RESULT, NOTHING_LEFT);
+    compare(bench, call, n);
+    number
+}
+
+// A pair with an operand that is refused: every operation is refused with the same number.
+fn compare_refused(bench: &mut Bench, number: usize) {
+    answers::expect_row(bench, BOUNDS, number);
+    let mut call = DILATE;
+    while call < CALLS {
+        compare(bench, call, 1);
+        call += 1;
+    }
+}
+
+// A call that begins with a dilation, or the one after it, which begins with an erosion.
+fn call_of(call: usize, erodes: bool) -> usize
+    requires { ⌜ call < 11 ⌝ }
+    ensures { λ r. ⌜ r < 12 ⌝ }
+{
+    if erodes { call + 1 } else { call }
+}
+
+// A dilation and then an erosion, or the other way round. What the first refuses is the answer of the two.
+fn compare_steps(bench: &mut Bench, erodes: bool) {
+    let place = bench[PLACES + PLOT];
+    sets::enumerate(bench, OPERANDS, RESULT, place);
+    sets::fold(bench, erodes);
+    let number = compare_result(bench, call_of(DILATE, erodes), 1);
+    if number == 0 {
+        sets::fold(bench, !erodes);
+        compare_result(bench, call_of(CLOSING, erodes), 1);
+    } else {
+        compare(bench, call_of(CLOSING, erodes), 1);
+    }
+}
+
+// No folds to four, one at a time, and one more than the limit of 65,535.
+fn compare_folds(bench: &mut Bench, erodes: bool) {
+    let call = call_of(DILATE_N, erodes);
+    let place = bench[PLACES + PLOT];
+    sets::enumerate(bench, OPERANDS, RESULT, place);
+    let mut n = 0;
+    while n < 5 {
+        compare_result(bench, call, n);
+        sets::fold(bench, erodes);
+        n += 1;
+    }
+    answers::expect_row(bench, BOUNDS, answers::TOO_MANY_FOLDS);
+    compare(bench, call, 65536);
+}
+
+// Every operation on a pair of which an operand is refused with a number, or both are accepted.
+pub fn compare_all(bench: &mut Bench, number: usize) {
+    if number != 0 {
+        compare_refused(bench, number);
+        return;
+    }
+    compare_steps(bench, false);
+    compare_steps(bench, true);
+    compare_folds(bench, false);
+    compare_folds(bench, true);
+}

@@ -1,0 +1,2 @@
+-- What the proofs of this program cite.
+pub mod Lift

@@ -1,0 +1,2 @@
+-- What the contract of the listing cites.
+pub mod Listings

@@ -1,0 +1,86 @@
+-- Each answer of `check` and of `read` with what it says of the sheet, in the words of document 01. proofs/CheckCases.antt and
+-- proofs/ReadCases.antt show that each is given exactly where its case holds. Assumes nothing.
+use mathlib.Core.Path.{_≡_}
+use mathlib.Core.List.{List, _∷_}
+use Prim.Native.Nat.{ℕ, _+_, _-_, _*_, _≤_, _<_}
+use lib.ListN.{length}
+use Rattle.octagon.specs.declared.Octagon.{Octagon}
+use Rattle.octagon.specs.Outcome.{Outcome, accepted, refused, off-map}
+use Rattle.octagon.specs.Cells.{LeavesMap}
+use Rattle.outline.specs.Closing.{Closes}
+use Rattle.outline.specs.Walk.{InsideWalk}
+use Rattle.outline.specs.Tracing.{traced, not-closed}
+use Rattle.records.specs.Parts.{part}
+use Rattle.records.specs.Rows.{key, Ascending}
+use Rattle.sheet.specs.declared.Record.{Record}
+use Rattle.sheet.specs.declared.trailer.Trailer.{Trailer}
+use Rattle.sheet.specs.Layout.{sheet-limit, record-length, trailer-length, letters, trailer-at, decoded}
+use Rattle.sheet.specs.Answers.{bad-length, bad-trailer, bad-distance, bad-number, no-record}
+use Rattle.sheet.specs.Checking.{first, rows}
+
+-- ---- the frame: the length and the trailer
+
+-- a length that a sheet may have in the buffer s
+pub record GoodLength (s : List ℕ) (len : ℕ) : Type 0 where
+  pub long : trailer-length ≤ len
+  pub short : len ≤ sheet-limit
+  pub within : len ≤ length s
+
+-- a trailer's record length, zero bytes and letters are right
+pub record GoodMarks (z : Trailer) : Type 0 where
+  pub length-is : z .length ≡ record-length
+  pub zeros-are : z .zeros ≡ 0
+  pub letters-are : z .letters ≡ letters
+
+-- its distance is that of its records, and is at most the length less the trailer's
+pub record GoodDistance (len : ℕ) (z : Trailer) : Type 0 where
+  pub distance-is : z .distance ≡ record-length * z .count
+  pub near : z .distance ≤ len - trailer-length
+
+-- all three are right, and the trailer states the count c
+pub record GoodFrame (s : List ℕ) (len c : ℕ) : Type 0 where
+  pub size : GoodLength s len
+  pub marks : GoodMarks (trailer-at s (len - trailer-length))
+  pub distance : GoodDistance len (trailer-at s (len - trailer-length))
+  pub count : trailer-at s (len - trailer-length) .count ≡ c
+
+-- ---- the records
+
+-- the outline of the record in these bytes has an octagon: it closes and lies on the map
+abbrev pub HasOctagon : List ℕ → Type 0
+HasOctagon b = (o : Octagon) × (traced (decoded b .outline) ≡ accepted o)
+
+-- the first record that is refused, and its refusal: 11 when its plot number is 0 or not above the one before (`before` is that
+-- one, or 0 at the first record), 3 when its outline does not close, 2 when some cell of the outline lies off the map
+pub data Faulty : ℕ → List (List ℕ) → ℕ → Type 0 where
+  wrong-number : {before : ℕ} {b : List ℕ} {bs : List (List ℕ)} → key b ≤ before → Faulty before (b ∷ bs) bad-number
+  open-outline : {before : ℕ} {b : List ℕ} {bs : List (List ℕ)} → before < key b → ¬ (Closes (decoded b .outline)) → Faulty before (b ∷ bs) not-closed
+  off-outline : {before : ℕ} {b : List ℕ} {bs : List (List ℕ)} → before < key b → Closes (decoded b .outline) → LeavesMap (InsideWalk (decoded b .outline))
+      → Faulty before (b ∷ bs) off-map
+  later : {before e : ℕ} {b : List ℕ} {bs : List (List ℕ)} → before < key b → HasOctagon b → Faulty (key b) bs e → Faulty before (b ∷ bs) e
+
+-- ---- check a sheet
+
+-- "8 when the length is below 16, above 65,536 or above the buffer's";
+-- "9 when letters, record length or zero bytes are wrong";
+-- "10 when the distance is not 24 times the count or exceeds the length less 16";
+-- "then per record: 11 when its number is 0 or not above the one before, 3, 2";
+-- "it answers the count"
+pub data CheckCase (s : List ℕ) (len : ℕ) : Outcome ℕ → Type 0 where
+  wrong-size : ¬ (GoodLength s len) → CheckCase s len (refused bad-length)
+  unmarked : GoodLength s len → ¬ (GoodMarks (trailer-at s (len - trailer-length))) → CheckCase s len (refused bad-trailer)
+  misplaced : GoodLength s len → GoodMarks (trailer-at s (len - trailer-length)) → ¬ (GoodDistance len (trailer-at s (len - trailer-length)))
+      → CheckCase s len (refused bad-distance)
+  faulty : {c e : ℕ} → GoodFrame s len c → Faulty 0 (rows s len c) e → CheckCase s len (refused e)
+  right : {c : ℕ} → GoodFrame s len c → Ascending HasOctagon 0 (rows s len c) → CheckCase s len (accepted c)
+
+-- ---- read record k of c records
+
+-- 8 as above; 10 when the distance of c records exceeds the length less 16; "13 when k is not below the count"; else the record
+-- of the bytes at its place
+pub data ReadCase (s : List ℕ) (len c k : ℕ) : Outcome Record → Type 0 where
+  no-sheet : ¬ (GoodLength s len) → ReadCase s len c k (refused bad-length)
+  too-many : GoodLength s len → len - trailer-length < record-length * c → ReadCase s len c k (refused bad-distance)
+  past-last : GoodLength s len → record-length * c ≤ len - trailer-length → c ≤ k → ReadCase s len c k (refused no-record)
+  there : GoodLength s len → record-length * c ≤ len - trailer-length → k < c
+      → ReadCase s len c k (accepted (decoded (part s (first len c + record-length * k) record-length)))
