@@ -51,6 +51,11 @@ vertex-6 : located its-bounds 6 ≡ accepted (record { east = fin true 11 (negsu
 unfolding located place-of-vertex over round vertex outlined normalised normal-form tight-odd tight-even even-bound odd-bound minℤ halfℤ has-cell placed is-on-map outline-of sides
 vertex-6 = refl
 
+-- vertex 7, the last, is the cell (-11, 2): -2.75 east and 0.5 north
+vertex-7 : located its-bounds 7 ≡ accepted (record { east = fin true 11 (negsuc 1); north = fin false 1 (negsuc 0) })
+unfolding located place-of-vertex over round vertex outlined normalised normal-form tight-odd tight-even even-bound odd-bound minℤ halfℤ has-cell placed is-on-map outline-of sides
+vertex-7 = refl
+
 -- there is no vertex 8
 vertex-8 : located its-bounds 8 ≡ refused 7
 unfolding located place-of-vertex outlined normalised normal-form tight-odd tight-even even-bound odd-bound minℤ halfℤ has-cell placed is-on-map outline-of sides

@@ -26,7 +26,7 @@ use Rattle.outline.specs.declared.place.Place.{Place}
 use Rattle.outline.specs.Walk.{vertex}
 use Rattle.outline.specs.Outlining.{outlined}
 use Rattle.outline.specs.Meaning.{InMetres}
-use Rattle.outline.specs.Places.{Exactly, HeldCell, over, place-of, no-vertex, place-of-vertex, located}
+use Rattle.outline.specs.Places.{Exactly, HeldCell, over, place-of, no-vertex, place-of-vertex, located, quarter}
 use Rattle.outline.proofs.Tracings as tracings
 use Rattle.outline.proofs.Vertices.{vertices}
 use Rattle.outline.proofs.RoundTrips.{outline-octagon, outlined-refusals}
@@ -49,8 +49,12 @@ vertex-fits c o q k h = let f = fits (vertex-on-map c o q k h) in record { fits-
 
 -- ---- exact quarters
 
-quarter-exact : {z : ℤ} → SFits w32 z → Exactly z 4 (over z 4)
+-- of every number of cells that an i32 holds, on the map or off it
+pub quarter-exact : {z : ℤ} → SFits w32 z → Exactly z 4 (quarter z)
 quarter-exact {z} f = over-exact z 2 (omega arith) (f .sfits)
+
+pub place-exact : {x y : ℤ} → SFits w32 x → SFits w32 y → Exactly x 4 (place-of x y .east) × Exactly y 4 (place-of x y .north)
+place-exact f g = (quarter-exact f, quarter-exact g)
 
 -- "zero is positive zero": minus zero is exactly no number of quarters
 pub no-minus-zero : (z e : ℤ) → ¬ (Exactly z 4 (fin true 0 e))

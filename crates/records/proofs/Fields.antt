@@ -1,11 +1,12 @@
--- Numbers in fields of given widths: the way there and back. Assumes nothing.
+-- Numbers in fields of given widths: the way there and back, and each field by its place. Assumes nothing.
 use mathlib.Core.Path.{_≡_, refl, ap, _∙_}
 use mathlib.Core.List.{List, [], _∷_, _++_, append-assoc, append-nil}
 use Prim.Native.Nat.{ℕ, zero, suc, _-_, _^_, _≤_, _<_}
 use native.Mathlib.Omega.{arith}
 use lib.ListN.{length, take, drop, getD, length-append, length-drop}
-use lib.Seq.{take-at, drop-at, take-add, take-take}
+use lib.Seq.{take-at, drop-at, take-add, take-take, drop-drop}
 use Rattle.records.specs.Numbers.{AreBytes, number, bytes, total-width, packed, unpacked}
+use Rattle.records.specs.Fields.{field-at, field, HasFields}
 use Rattle.records.proofs.Parts.{between-part}
 use Rattle.records.proofs.Numbers.{drop-bytes, number-take, length-bytes, number-bytes, bytes-number}
 
@@ -50,3 +51,20 @@ pub fit-at : {ws vs : List ℕ} (k : ℕ) → k < length ws → Fit ws vs → ge
 fit-at k h none = absurd (omega arith)
 fit-at zero h (more l f) = l
 fit-at (suc k) h (more l f) = fit-at k (omega arith) f
+
+-- ---- each field by its place
+
+-- the number that is read of field k is the one in its bytes
+pub fields-read : (ws s : List ℕ) → HasFields ws s (unpacked ws s)
+fields-read [] s k h = absurd (omega arith)
+fields-read (w ∷ ws) s zero h = refl
+fields-read (w ∷ ws) s (suc k) h = rw (← drop-drop (field-at ws k) w s) (fields-read ws (drop w s) k (omega arith))
+
+-- and the bytes of field k that are written are those of number k
+pub fields-written : (ws vs : List ℕ) (k : ℕ) → length ws ≡ length vs → k < length ws → field ws (packed ws vs) k ≡ bytes (getD ws k 0) (getD vs k 0)
+fields-written [] vs k e h = absurd (omega arith)
+fields-written (w ∷ ws) [] k e h = absurd (omega arith)
+fields-written (w ∷ ws) (v ∷ vs) zero e h = take-at (bytes w v) (packed ws vs) w (length-bytes w v)
+fields-written (w ∷ ws) (v ∷ vs) (suc k) e h =
+    rw (← drop-drop (field-at ws k) w (bytes w v ++ packed ws vs), drop-at (bytes w v) (packed ws vs) w (length-bytes w v))
+    (fields-written ws vs k (omega arith) (omega arith))

@@ -7,3 +7,4 @@ pub mod Fields
 pub mod Steps
 pub mod Rows
 pub mod Order
+pub mod Examples

@@ -1,16 +1,17 @@
--- Numbers in bytes: a part read byte by byte, the way there and back, and two's complement. Assumes nothing.
-use mathlib.Core.Path.{_≡_, refl, ap}
+-- Numbers in bytes: a part read byte by byte, the way there and back, each byte by its place, and two's complement. Assumes nothing.
+use mathlib.Core.Path.{_≡_, refl, sym, ap, _∙_}
+use mathlib.Core.Logic.{_⊎_, inl, inr}
 use mathlib.Core.List.{List, [], _∷_}
 use Prim.Native.Nat.{ℕ, zero, suc, _+_, _-_, _*_, _/_, _%_, _^_, _≤_, _<_}
 use native.Mathlib.Omega.{arith}
-use native.Mathlib.Nat.{pow-suc, one-le-pow}
+use native.Mathlib.Nat.{pow-suc, pow-zero, pow-succ', one-le-pow, div-one, zero-div, div-div-eq-div-mul}
 use native.Mathlib.Numerals.{add-one}
 use lib.ListN.{length, take, drop, getD}
 use lib.Seq.{drop-cons}
 use lib.Dec.{ltb}
 use lib.IntN.{ℤ, pos, negsuc, _-ℤ_}
 use lib.Signed.{mag}
-use borrow.Author.Tests.{lt-ltb, le-ltb}
+use borrow.Author.Tests.{lt-ltb, le-ltb, ltb-true, ltb-false}
 use Rattle.integers.proofs.Tests.{cases}
 use Rattle.integers.proofs.Parts.{up, dn, diff-parts, parts-eq}
 use Rattle.records.specs.Numbers.{AreBytes, number, bytes, signed, twos}
@@ -59,9 +60,45 @@ bytes-number (suc w) (b ∷ s) h l =
     let f : (b + 256 * n) / 256 ≡ n = omega arith in
     rw (e, f, bytes-number w s (tail-bytes b s h) (omega arith))
 
+-- ---- the lowest byte first: byte i of a number is its digit i to the base 256
+
+digit-on : (v i : ℕ) → v / 256 / 256 ^ i ≡ v / 256 ^ suc i
+digit-on v i = div-div-eq-div-mul v 256 (256 ^ i) ∙ ap (λ (n : ℕ). v / n) (sym (pow-succ' 256 i))
+
+pub byte-written : (w v i : ℕ) → i < w → getD (bytes w v) i 0 ≡ v / 256 ^ i % 256
+byte-written zero v i h = absurd (omega arith)
+byte-written (suc w) v zero h = rw (pow-zero, div-one)
+byte-written (suc w) v (suc i) h = byte-written w (v / 256) i (omega arith) ∙ ap (λ (n : ℕ). n % 256) (digit-on v i)
+
+pub byte-read : (s : List ℕ) (i : ℕ) → AreBytes s → number s / 256 ^ i % 256 ≡ getD s i 0
+byte-read [] i h = rw zero-div
+byte-read (b ∷ s) zero h = rw (pow-zero, div-one) (omega (arith, h 0))
+byte-read (b ∷ s) (suc i) h =
+    let k = h 0 in
+    let e : (b + 256 * number s) / 256 ≡ number s = omega arith in
+    rw (← digit-on (b + 256 * number s) i, e) (byte-read s i (tail-bytes b s h))
+
 -- ---- two's complement
 
--- a number of w bytes, signed: its magnitude is below half of what they hold
+-- a number less 256 ^ w, as a negative one
+twos-less : (w v : ℕ) → v < 256 ^ suc w → pos v -ℤ pos (256 ^ suc w) ≡ negsuc (256 ^ suc w - suc v)
+unfolding up dn
+twos-less w v h =
+    let f : up (pos v -ℤ pos (256 ^ suc w)) + (0 + 256 ^ suc w) ≡ (v + 0) + dn (pos v -ℤ pos (256 ^ suc w)) = diff-parts (pos v) (pos (256 ^ suc w)) in
+    parts-eq (pos v -ℤ pos (256 ^ suc w)) (negsuc (256 ^ suc w - suc v)) (omega arith)
+
+-- what w bytes stand for: the number in them or that less 256 ^ w, whichever lies from minus half of 256 ^ w up to below half of it
+-- (`mag z < h` says that z is from -h up to h - 1)
+pub signed-is : (w v : ℕ) → v < 256 ^ suc w
+    → ((signed (suc w) v ≡ pos v) ⊎ (signed (suc w) v ≡ pos v -ℤ pos (256 ^ suc w))) × (mag (signed (suc w) v) < 256 ^ suc w / 2)
+unfolding signed
+signed-is w v h =
+    let e : 256 ^ suc w ≡ 256 ^ w * 256 = pow-suc 256 w in
+    cases (ltb v (256 ^ suc w / 2))
+    (λ b. rw b (inl refl, ltb-true v (256 ^ suc w / 2) b))
+    (λ b. let l = ltb-false v (256 ^ suc w / 2) b in rw b (inr refl, rw (twos-less w v h) (omega arith)))
+
+-- and there and back: a signed number whose magnitude is below half of what the bytes hold
 pub signed-twos : (w : ℕ) (z : ℤ) → mag z < 256 ^ suc w / 2 → signed (suc w) (twos (suc w) z) ≡ z
 unfolding signed twos up dn
 signed-twos w (pos n) h = rw (lt-ltb n (256 ^ suc w / 2) h)
@@ -76,13 +113,7 @@ unfolding twos
 twos-below w (pos n) h = omega arith
 twos-below w (negsuc n) h = omega (arith, one-le-pow (suc w) 256 (omega arith))
 
--- and back: a number of w bytes, read as signed
-twos-less : (w v : ℕ) → v < 256 ^ suc w → pos v -ℤ pos (256 ^ suc w) ≡ negsuc (256 ^ suc w - suc v)
-unfolding up dn
-twos-less w v h =
-    let f : up (pos v -ℤ pos (256 ^ suc w)) + (0 + 256 ^ suc w) ≡ (v + 0) + dn (pos v -ℤ pos (256 ^ suc w)) = diff-parts (pos v) (pos (256 ^ suc w)) in
-    parts-eq (pos v -ℤ pos (256 ^ suc w)) (negsuc (256 ^ suc w - suc v)) (omega arith)
-
+-- and a number of w bytes, read as signed
 pub twos-signed : (w v : ℕ) → v < 256 ^ suc w → twos (suc w) (signed (suc w) v) ≡ v
 unfolding signed twos
 twos-signed w v h =

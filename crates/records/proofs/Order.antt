@@ -6,10 +6,11 @@ use Prim.Native.Nat.{ℕ, zero, suc, _+_, _-_, _≤_, _<_}
 use native.Mathlib.Omega.{arith}
 use lib.Dec.{ltb, eqb}
 use lib.ListN.{length, getD}
-use borrow.Author.Tests.{lt-ltb, le-ltb, eq-eqb, ne-eqb, ltb-true, ltb-false, eqb-false}
+use borrow.Author.Tests.{lt-ltb, le-ltb, eq-eqb, ne-eqb, ltb-true, ltb-false, eqb-true, eqb-false}
+use Rattle.integers.proofs.Tests.{cases, true-is-not-false}
 use Rattle.records.specs.Numbers.{number}
 use Rattle.records.specs.Parts.{part}
-use Rattle.records.specs.Rows.{records, key-width, key, Ascending, none, more, present, rank, put-in-order}
+use Rattle.records.specs.Rows.{records, key-width, key, Ascending, none, more, Present, present, rank, put-in-order}
 use Rattle.records.proofs.Rows.{key-at}
 
 -- ---- the order is kept
@@ -29,6 +30,28 @@ ascending-put-in-order {P} {v} r h p n (more {r = a} {rs = rs} l q m) =
     pick : (b : Bool) → b ≡ ltb (key a) (key r) → (key a ≡ key r → ⊥) → (key a < key r → Ascending P (key a) (put-in-order r rs)) → Ascending P v (cond b (a ∷ put-in-order r rs) (r ∷ a ∷ rs))
     pick true e f g = more {r = a} l q (g (ltb-true (key a) (key r) (sym e)))
     pick false e f g = let k : key r ≤ key a = ltb-false (key a) (key r) (sym e) in more {r = r} h p (more {v = key r} {r = a} (omega arith) q m)
+
+-- ---- the test of a number says whether some record has it
+
+pub present-test : (v : ℕ) (rs : List (List ℕ)) → present v rs ≡ true → Present v rs
+present-test v [] e = absurd (true-is-not-false (sym e))
+present-test v (r ∷ rs) e =
+    cases (eqb (key r) v)
+    (λ t. record { place = 0; below = omega arith; same = eqb-true (key r) v t })
+    (λ t. later (present-test v rs (rw t at e)))
+  where
+    later : Present v rs → Present v (r ∷ rs)
+    later p = record { place = suc (p .place); below = omega (arith, p .below); same = p .same }
+
+pub absent-test : (v : ℕ) (rs : List (List ℕ)) → present v rs ≡ false → ¬ (Present v rs)
+absent-test v [] e p = omega (arith, p .below)
+absent-test v (r ∷ rs) e p =
+    let f = or-false (eqb (key r) v) (present v rs) e in
+    go (p .place) (p .below) (p .same) (eqb-false (key r) v (f .0)) (absent-test v rs (f .1))
+  where
+    go : (k : ℕ) → k < suc (length rs) → key (getD (r ∷ rs) k []) ≡ v → (key r ≡ v → ⊥) → ¬ (Present v rs) → ⊥
+    go zero h q f g = f q
+    go (suc k) h q f g = g (record { place = k; below = omega arith; same = q })
 
 -- ---- where a number stands: the first record decides, or the others do
 

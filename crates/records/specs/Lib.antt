@@ -2,4 +2,5 @@
 pub mod Text
 pub mod Numbers
 pub mod Parts
+pub mod Fields
 pub mod Rows

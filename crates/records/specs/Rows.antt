@@ -1,9 +1,10 @@
 -- Records of one length L in a list of bytes, their plot numbers, their order by number, and the records with one more. A record is
 -- the list of its bytes. Assumes nothing.
 use Prim.Native.Nat.{ℕ, zero, suc, _+_, _<_}
+use mathlib.Core.Path.{_≡_}
 use mathlib.Core.Bool.{Bool, false, cond, _||_}
 use mathlib.Core.List.{List, [], _∷_, _++_}
-use lib.ListN.{take}
+use lib.ListN.{length, take, getD}
 use lib.Dec.{ltb, eqb}
 use Rattle.records.specs.Numbers.{number}
 use Rattle.records.specs.Parts.{part}
@@ -31,7 +32,12 @@ pub data Ascending (P : List ℕ → Type 0) : ℕ → List (List ℕ) → Type 
   none : {v : ℕ} → Ascending P v []
   more : {v : ℕ} {r : List ℕ} {rs : List (List ℕ)} → v < key r → P r → Ascending P (key r) rs → Ascending P v (r ∷ rs)
 
--- some record has the number v
+-- some record has the number v, and the test of it
+pub record Present (v : ℕ) (rs : List (List ℕ)) : Type 0 where
+  pub place : ℕ
+  pub below : place < length rs
+  pub same : key (getD rs place []) ≡ v
+
 abbrev pub present : ℕ → List (List ℕ) → Bool
 present v [] = false
 present v (r ∷ rs) = eqb (key r) v || present v rs

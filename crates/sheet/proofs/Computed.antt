@@ -1,47 +1,102 @@
--- The sheet of document 01's listing, made and read by the definitions: antt computes it. Assumes nothing.
+-- Document 01's sheet with one plot more, whose fields all differ, made and read by the definitions, and the order of the refusals on
+-- sheets with several faults: antt computes them. Assumes nothing.
 use mathlib.Core.Path.{_≡_, refl}
-use mathlib.Core.List.{List, _∷_}
+use mathlib.Core.List.{List, [], _∷_, _++_, map}
 use Prim.Native.Nat.{ℕ}
-use lib.IntN.{pos, negsuc}
-use lib.ListN.{replicate}
-use Rattle.octagon.specs.Outcome.{accepted, refused}
+use lib.IntN.{ℤ, pos, negsuc}
+use lib.ListN.{length, drop, replicate}
+use Rattle.octagon.specs.Outcome.{Outcome, accepted, refused}
 use Rattle.octagon.specs.NormalForm.{is-on-map, placed}
 use Rattle.outline.specs.Closing.{closes}
-use Rattle.outline.specs.Walk.{vertex}
+use Rattle.outline.specs.Walk.{with-sides, vertex}
 use Rattle.outline.specs.Tracing.{bounds-at, drawn, traced}
 use Rattle.records.specs.Numbers.{signed, twos}
 use Rattle.records.specs.Parts.{splice}
 use Rattle.sheet.specs.declared.Record.{Record}
 use Rattle.sheet.specs.Layout.{encoded, decoded, trailer, trailer-at}
-use Rattle.sheet.specs.Checking.{stated, framed, judged, surveyed, checked, fetched}
+use Rattle.sheet.specs.Checking.{stated, framed, judged, surveyed, checked, fetched, read}
 use Rattle.sheet.specs.Writing.{started, after-start, admitted, vetted, insertion, inserted, grown, after-insert}
 
+abbrev plot : ℕ → ℤ → ℤ → List ℕ → Record
+plot v i j n = record { number = v; outline = with-sides i j n }
+
 -- "7 = start (2,-1), n0=3 n2=1 n4=3 n6=1, and 11407 = K13"
-abbrev seven : Record
-seven = record { number = 7; outline = record { i = pos 2; j = negsuc 0; n0 = 3; n1 = 0; n2 = 1; n3 = 0; n4 = 3; n5 = 0; n6 = 1; n7 = 0 } }
+abbrev pub seven : Record
+seven = plot 7 (pos 2) (negsuc 0) (3 ∷ 0 ∷ 1 ∷ 0 ∷ 3 ∷ 0 ∷ 1 ∷ 0 ∷ [])
 
-abbrev thirteenth : Record
-thirteenth = record { number = 11407; outline = record { i = pos 0; j = pos 0; n0 = 0; n1 = 1; n2 = 0; n3 = 1; n4 = 0; n5 = 1; n6 = 0; n7 = 1 } }
+abbrev pub thirteenth : Record
+thirteenth = plot 11407 (pos 0) (pos 0) (0 ∷ 1 ∷ 0 ∷ 1 ∷ 0 ∷ 1 ∷ 0 ∷ 1 ∷ [])
 
--- a buffer of 80 bytes, each 9
+-- all fields differ, and so do all bytes
+abbrev uneven : Record
+uneven = plot 286397204 (negsuc 299) (pos 515) (1070 ∷ 3452 ∷ 461 ∷ 2371 ∷ 2982 ∷ 1979 ∷ 1495 ∷ 2810 ∷ [])
+
+-- a buffer of 104 bytes, each 9
 abbrev buffer : List ℕ
-buffer = replicate 80 9
+buffer = replicate 104 9
 
--- the sheet of both records after a heading of 3 bytes: the lower number first, whichever was inserted first
+-- the sheet of the three records after a heading of 3 bytes: the lower number first, whichever was inserted first
 abbrev made : List ℕ
 made =
     9 ∷ 9 ∷ 9 ∷
     7 ∷ 0 ∷ 0 ∷ 0 ∷ 2 ∷ 0 ∷ 255 ∷ 255 ∷ 3 ∷ 0 ∷ 0 ∷ 0 ∷ 1 ∷ 0 ∷ 0 ∷ 0 ∷ 3 ∷ 0 ∷ 0 ∷ 0 ∷ 1 ∷ 0 ∷ 0 ∷ 0 ∷
     143 ∷ 44 ∷ 0 ∷ 0 ∷ 0 ∷ 0 ∷ 0 ∷ 0 ∷ 0 ∷ 0 ∷ 1 ∷ 0 ∷ 0 ∷ 0 ∷ 1 ∷ 0 ∷ 0 ∷ 0 ∷ 1 ∷ 0 ∷ 0 ∷ 0 ∷ 1 ∷ 0 ∷
-    48 ∷ 0 ∷ 0 ∷ 0 ∷ 2 ∷ 0 ∷ 0 ∷ 0 ∷ 24 ∷ 0 ∷ 0 ∷ 0 ∷ 71 ∷ 82 ∷ 78 ∷ 68 ∷
+    20 ∷ 19 ∷ 18 ∷ 17 ∷ 212 ∷ 254 ∷ 3 ∷ 2 ∷ 46 ∷ 4 ∷ 124 ∷ 13 ∷ 205 ∷ 1 ∷ 67 ∷ 9 ∷ 166 ∷ 11 ∷ 187 ∷ 7 ∷ 215 ∷ 5 ∷ 250 ∷ 10 ∷
+    72 ∷ 0 ∷ 0 ∷ 0 ∷ 3 ∷ 0 ∷ 0 ∷ 0 ∷ 24 ∷ 0 ∷ 0 ∷ 0 ∷ 71 ∷ 82 ∷ 78 ∷ 68 ∷
     replicate 13 9
 
-makes : after-insert (after-insert (after-start buffer 3) 19 thirteenth) 43 seven ≡ made
+makes : after-insert (after-insert (after-insert (after-start buffer 3) 19 thirteenth) 43 uneven) 67 seven ≡ made
 unfolding after-start started splice trailer after-insert insertion vetted admitted grown checked framed stated trailer-at surveyed judged decoded encoded signed twos traced closes placed is-on-map drawn bounds-at vertex
 makes = refl
 
--- what the calls answer of it
-answers : (checked made 67 ≡ accepted 2) × (fetched made 67 0 ≡ accepted seven) × (fetched made 67 1 ≡ accepted thirteenth) × (fetched made 67 2 ≡ refused 13)
-    × (inserted made 67 seven ≡ refused 11) × (inserted made 65 thirteenth ≡ refused 9) × (started made 70 ≡ refused 12)
-unfolding fetched started inserted insertion vetted admitted checked framed stated trailer-at surveyed judged decoded signed traced closes placed is-on-map drawn bounds-at vertex
-answers = (refl, refl, refl, refl, refl, refl, refl)
+-- what is read of it, and of a part of it
+pub reads : (checked made 91 ≡ accepted 3) × (map (fetched made 91) (0 ∷ 1 ∷ 2 ∷ 3 ∷ []) ≡ accepted seven ∷ accepted thirteenth ∷ accepted uneven ∷ refused 13 ∷ [])
+    × (map (read made 91 3) (2 ∷ 3 ∷ []) ≡ accepted uneven ∷ refused 13 ∷ []) × (fetched made 90 9 ≡ refused 9) × (read made 15 3 9 ≡ refused 8)
+unfolding fetched read checked framed stated trailer-at surveyed judged decoded signed traced closes placed is-on-map drawn bounds-at vertex
+reads = (refl, refl, refl, refl, refl)
+
+-- ---- the order of refusals
+
+-- an outline that does not close, and one that leaves the map
+abbrev open-plot : ℕ → Record
+open-plot v = plot v (pos 1) (pos 2) (3 ∷ 1 ∷ 14 ∷ 2 ∷ 5 ∷ 4 ∷ 6 ∷ 8 ∷ [])
+
+abbrev off-plot : ℕ → Record
+off-plot v = plot v (pos 15999) (pos 2) (3 ∷ 1 ∷ 14 ∷ 2 ∷ 5 ∷ 4 ∷ 6 ∷ 7 ∷ [])
+
+abbrev good-plot : ℕ → Record
+good-plot v = plot v (negsuc 3) (negsuc 4) (3 ∷ 1 ∷ 14 ∷ 2 ∷ 5 ∷ 4 ∷ 6 ∷ 7 ∷ [])
+
+-- 9, 10 (twice: not 24 times the count, and more than the length less 16), then of each record 11 (0, equal, falling), 3, 2, where a
+-- later fault is there too; and a sheet that is right
+abbrev faults : List (List ℕ)
+faults =
+    (encoded (open-plot 0) ++ (25 ∷ 0 ∷ 0 ∷ 0 ∷ 1 ∷ 0 ∷ 0 ∷ 0 ∷ 24 ∷ 0 ∷ 0 ∷ 0 ∷ 71 ∷ 82 ∷ 78 ∷ 69 ∷ [])) ∷
+    (encoded (open-plot 0) ++ (25 ∷ 0 ∷ 0 ∷ 0 ∷ 1 ∷ 0 ∷ 0 ∷ 0 ∷ 24 ∷ 0 ∷ 0 ∷ 0 ∷ 71 ∷ 82 ∷ 78 ∷ 68 ∷ [])) ∷
+    (drop 1 (encoded (open-plot 0)) ++ trailer 1) ∷
+    (encoded (open-plot 0) ++ trailer 1) ∷
+    (encoded (good-plot 5) ++ (encoded (open-plot 5) ++ trailer 2)) ∷
+    (encoded (good-plot 5) ++ (encoded (off-plot 4) ++ trailer 2)) ∷
+    (encoded (plot 5 (pos 15999) (pos 2) (3 ∷ 1 ∷ 14 ∷ 2 ∷ 5 ∷ 4 ∷ 6 ∷ 8 ∷ [])) ++ trailer 1) ∷
+    (encoded (off-plot 5) ++ (encoded (good-plot 5) ++ trailer 2)) ∷
+    (encoded (good-plot 5) ++ (encoded (good-plot 6) ++ trailer 2)) ∷ []
+
+pub checked-in-order : map (λ s. checked s (length s)) faults
+    ≡ refused 9 ∷ refused 10 ∷ refused 10 ∷ refused 11 ∷ refused 11 ∷ refused 11 ∷ refused 3 ∷ refused 2 ∷ accepted 2 ∷ []
+unfolding checked framed stated trailer-at surveyed judged decoded encoded trailer signed twos traced closes placed is-on-map drawn bounds-at vertex
+checked-in-order = refl
+
+-- the outline's 3 and 2, the check's 8 and 9, 11 for the number 0 or one that is present, 12, and the new length: each before the next
+pub inserted-in-order : map (inserted made 15) (open-plot 0 ∷ off-plot 0 ∷ good-plot 0 ∷ []) ≡ refused 3 ∷ refused 2 ∷ refused 8 ∷ []
+unfolding inserted insertion vetted admitted checked framed stated trailer-at surveyed judged decoded signed traced closes placed is-on-map drawn bounds-at vertex
+inserted-in-order = refl
+
+pub inserted-by-number : (map (inserted made 91) (good-plot 0 ∷ good-plot 7 ∷ good-plot 8 ∷ []) ≡ refused 11 ∷ refused 11 ∷ refused 12 ∷ [])
+    × (inserted made 90 (good-plot 0) ≡ refused 9) × (map (inserted (after-start buffer 3) 19) (good-plot 0 ∷ good-plot 4294967295 ∷ []) ≡ refused 11 ∷ accepted 43 ∷ [])
+unfolding after-start started splice trailer inserted insertion vetted admitted checked framed stated trailer-at surveyed judged decoded signed traced closes placed is-on-map drawn bounds-at vertex
+inserted-by-number = (refl, refl, refl)
+
+-- 8 when the heading and the trailer exceed 65,536, then 12 when they exceed the buffer's 104 bytes, then their length
+pub started-in-order : map (started buffer) (65521 ∷ 65520 ∷ 89 ∷ 88 ∷ 3 ∷ []) ≡ refused 8 ∷ refused 12 ∷ refused 12 ∷ accepted 104 ∷ accepted 19 ∷ []
+unfolding started
+started-in-order = refl

@@ -1,8 +1,8 @@
 -- The sheet that an accepted insert leaves, record by record (`insert-accepted`), and the order of records that are fetched
 -- (`fetched-ascending`). Assumes nothing.
-use mathlib.Core.Path.{_≡_, sym, ap, _∙_}
+use mathlib.Core.Path.{_≡_, refl, sym, ap, _∙_}
 use mathlib.Core.List.{List, [], _++_, append-assoc}
-use Prim.Native.Nat.{ℕ, suc, _+_, _^_, _≤_, _<_}
+use Prim.Native.Nat.{ℕ, suc, _+_, _-_, _^_, _≤_, _<_}
 use native.Mathlib.Omega.{arith}
 use lib.ListN.{length, take, drop, getD, length-append, length-drop}
 use lib.Seq.{take-at, drop-at}
@@ -10,18 +10,20 @@ use lib.Dec.{ltb}
 use borrow.Author.Tests.{ltb-true, ltb-false}
 use Rattle.integers.proofs.Tests.{cases}
 use Rattle.octagon.specs.Outcome.{accepted}
-use Rattle.octagon.proofs.Outcomes.{accepted-same, accepted-not-refused}
+use Rattle.octagon.proofs.Outcomes.{accepted-same, accepted-not-refused, map-accepted}
+use Rattle.records.specs.Parts.{part}
 use Rattle.records.specs.Rows.{joined, key-width, key, rank, put-in-order}
 use Rattle.records.proofs.Rows.{length-records, length-joined, rank-le, mul-more}
 use Rattle.records.proofs.Order.{put-in-order-before, put-in-order-here, put-in-order-after, ascending-step}
 use Rattle.sheet.specs.declared.Record.{Record}
-use Rattle.sheet.specs.Layout.{record-length, trailer, encoded, decoded}
+use Rattle.sheet.specs.Layout.{record-length, trailer-length, trailer, encoded, decoded}
+use Rattle.sheet.specs.Bytes.{TrailerOf}
 use Rattle.sheet.specs.Checking.{first, rows, checked, fetched}
-use Rattle.sheet.specs.Writing.{insertion, after-insert, GrownSheet}
+use Rattle.sheet.specs.Writing.{insertion, inserted, after-insert, GrownSheet}
 use Rattle.sheet.proofs.RecordBytes.{decoded-encoded, key-decoded}
 use Rattle.sheet.proofs.Checks.{checked-when, checked-good, fetched-row, fetched-none}
 use Rattle.sheet.proofs.TrailerBytes.{length-trailer}
-use Rattle.sheet.proofs.Sheets.{sheet, sheet-good, sheet-rows}
+use Rattle.sheet.proofs.Sheets.{sheet, sheet-good, sheet-trailer, sheet-rows}
 use Rattle.sheet.proofs.Insertion.{Taken, insertion-taken, insert-leaves, new-fits, new-front, new-each, new-count, new-length, new-ascending}
 
 module _ (s : List ℕ) (len : ℕ) (r : Record) (c : ℕ) (n : r .number < 256 ^ key-width) (t : Taken s len r c) where
@@ -37,6 +39,11 @@ module _ (s : List ℕ) (len : ℕ) (r : Record) (c : ℕ) (n : r .number < 256 
       checked-when new-sheet (len + record-length) (c + 1)
       (sheet-good (take (first len c) s) new-rows (c + 1) (drop (len + record-length) s) (len + record-length)
       (new-each s len r c n t) (new-count s len r c n t) (new-length s len r c n t) (t .admitted .short) (new-ascending s len r c n t))
+
+  new-trailer : TrailerOf (c + 1) (part new-sheet (len + record-length - trailer-length) trailer-length)
+  new-trailer =
+      sheet-trailer (take (first len c) s) new-rows (c + 1) (drop (len + record-length) s) (len + record-length)
+      (new-each s len r c n t) (new-count s len r c n t) (new-length s len r c n t) (t .admitted .short)
 
   rows-are : rows new-sheet (len + record-length) (c + 1) ≡ new-rows
   rows-are =
@@ -103,22 +110,31 @@ module _ (s : List ℕ) (len : ℕ) (r : Record) (c : ℕ) (n : r .number < 256 
       length-append (take (first len c) s ++ joined new-rows ++ trailer (c + 1)) (drop (len + record-length) s)
       ∙ omega (arith, new-front-length, length-drop (len + record-length) s, t .admitted)
 
--- "The old records and the new one then stand by rising number, with the trailer brought up to date .. Heading and bytes past the
--- new length keep their values"
-pub insert-accepted : (s : List ℕ) (len : ℕ) (r : Record) (c : ℕ) → r .number < 256 ^ key-width → insertion s len r ≡ accepted c
-    → GrownSheet s (after-insert s len r) len c r
-insert-accepted s len r c n e =
+grown-sheet : (s : List ℕ) (len : ℕ) (r : Record) (c n : ℕ) → r .number < 256 ^ key-width → insertion s len r ≡ accepted c → len + record-length ≡ n
+    → GrownSheet s (after-insert s len r) len c r n
+grown-sheet s len r c n v e l =
     let t = insertion-taken s len r c e in
-    rw (insert-leaves s len r c e) (record {
-      checks = new-checks s len r c n t;
+    rw (insert-leaves s len r c e, ← l) (record {
+      length-is = refl;
+      counted = t .sheet-is;
+      checks = new-checks s len r c v t;
       at = rank (key (encoded r)) (rows s len c);
-      before = new-before s len r c n t;
-      here = new-here s len r c n t;
-      after = new-after s len r c n t;
-      heading = new-heading s len r c n t;
-      past = new-past s len r c n t;
-      same-length = new-whole s len r c n t;
+      before = new-before s len r c v t;
+      here = new-here s len r c v t;
+      after = new-after s len r c v t;
+      trailer-is = new-trailer s len r c v t;
+      heading = new-heading s len r c v t;
+      past = new-past s len r c v t;
+      same-length = new-whole s len r c v t;
     })
+
+-- "The old records and the new one then stand by rising number, with the trailer brought up to date, and the answer is the new length.
+-- Heading and bytes past the new length keep their values."
+pub insert-accepted : (s : List ℕ) (len : ℕ) (r : Record) (n : ℕ) → r .number < 256 ^ key-width → inserted s len r ≡ accepted n
+    → (c : ℕ) × GrownSheet s (after-insert s len r) len c r n
+unfolding inserted
+insert-accepted s len r n v q =
+    let m = map-accepted (insertion s len r) (λ _. len + record-length) n q in (m .0, grown-sheet s len r (m .0) n v (m .1) (m .2))
 
 -- of any sheet that checks, and so of this one, the records that are fetched stand by rising number
 pub fetched-ascending : (s : List ℕ) (len c k : ℕ) (a b : Record) → checked s len ≡ accepted c → fetched s len k ≡ accepted a → fetched s len (suc k) ≡ accepted b

@@ -22,24 +22,22 @@ use Rattle.sheet.specs.declared.Record.{Record}
 use Rattle.sheet.specs.Layout.{sheet-limit, record-length, trailer-length, trailer, encoded}
 use Rattle.sheet.specs.Answers.{bad-number, no-room}
 use Rattle.sheet.specs.Checking.{HoldsRecords, first, rows, checked}
-use Rattle.sheet.specs.Writing.{admitted, vetted, insertion, inserted, grown, after-insert}
+use Rattle.sheet.specs.Writing.{is-bad-number, has-no-room, admitted, vetted, insertion, inserted, grown, after-insert}
 use Rattle.sheet.proofs.Frames.{past}
 use Rattle.sheet.proofs.TrailerBytes.{length-trailer}
 
 -- ---- who is admitted
 
 module _ (s : List ℕ) (len v c : ℕ) where
-  pub admit-number : (eqb v 0 || present v (rows s len c)) ≡ true → admitted s len v c ≡ refused bad-number
+  pub admit-number : is-bad-number s len v c ≡ true → admitted s len v c ≡ refused bad-number
   unfolding admitted
   admit-number e = rw e
 
-  pub admit-room : (eqb v 0 || present v (rows s len c)) ≡ false → (ltb (length s) (len + record-length) || ltb sheet-limit (len + record-length)) ≡ true
-      → admitted s len v c ≡ refused no-room
+  pub admit-room : is-bad-number s len v c ≡ false → has-no-room s len ≡ true → admitted s len v c ≡ refused no-room
   unfolding admitted
   admit-room e f = rw (e, f)
 
-  pub admit-good : (eqb v 0 || present v (rows s len c)) ≡ false → (ltb (length s) (len + record-length) || ltb sheet-limit (len + record-length)) ≡ false
-      → admitted s len v c ≡ accepted c
+  pub admit-good : is-bad-number s len v c ≡ false → has-no-room s len ≡ false → admitted s len v c ≡ accepted c
   unfolding admitted
   admit-good e f = rw (e, f)
 
@@ -53,8 +51,8 @@ pub record Admitted (s : List ℕ) (len v c : ℕ) : Type 0 where
 pub admitted-passed : (s : List ℕ) (len v c n : ℕ) → admitted s len v c ≡ accepted n → Admitted s len v c × (n ≡ c)
 unfolding admitted
 admitted-passed s len v c n e =
-    let p = past (eqb v 0 || present v (rows s len c)) bad-number _ n e in
-    let q = past (ltb (length s) (len + record-length) || ltb sheet-limit (len + record-length)) no-room (accepted c) n (p .1) in
+    let p = past (is-bad-number s len v c) bad-number _ n e in
+    let q = past (has-no-room s len) no-room (accepted c) n (p .1) in
     let a = or-false (eqb v 0) (present v (rows s len c)) (p .0) in
     let b = or-false (ltb (length s) (len + record-length)) (ltb sheet-limit (len + record-length)) (q .0) in
     let z : v ≡ 0 → ⊥ = eqb-false v 0 (a .0) in (

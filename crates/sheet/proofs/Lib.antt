@@ -1,15 +1,19 @@
 -- Theorems on sheets.
 pub mod TwosComplement
 pub mod RecordBytes
+pub mod RecordFields
 pub mod Frames
 pub mod Surveys
 pub mod Checks
 pub mod TrailerBytes
+pub mod TrailerFields
 pub mod Sheets
 pub mod Starts
 pub mod Inserts
 pub mod Outlines
 pub mod CheckCases
+pub mod FetchCases
+pub mod InsertCases
 pub mod ReadCases
 pub mod Insertion
 pub mod Grown

@@ -18,6 +18,7 @@ use Rattle.sheet.specs.Layout.{record-length, trailer-length, decoded}
 use Rattle.sheet.specs.Answers.{bad-length, bad-distance, no-record}
 use Rattle.sheet.specs.Checking.{is-bad-length, first, rows, checked, fetched, read}
 use Rattle.sheet.specs.Cases.{ReadCase, no-sheet, too-many, past-last, there}
+use Rattle.sheet.proofs.RecordFields.{row-read, row-only}
 use Rattle.sheet.proofs.Frames.{good-length, passes-length}
 use Rattle.sheet.proofs.Checks.{checked-holds, fetched-row, fetched-none}
 
@@ -55,14 +56,14 @@ module _ (s : List ℕ) (len c k : ℕ) where
       (λ b. let l = ltb-true (len - trailer-length) (record-length * c) b in rw (read-distance a l) (too-many g l))
       (λ b. let l = ltb-false (len - trailer-length) (record-length * c) b in
       cases (ltb k c)
-      (λ d. rw (read-at a l (ltb-true k c d)) (there g l (ltb-true k c d)))
+      (λ d. let h = ltb-true k c d in rw (read-row a l h) (there g l h (row-read s len c k h)))
       (λ d. rw (read-none a l (ltb-false k c d)) (past-last g l (ltb-false k c d)))))
 
   given : {o : Outcome Record} → ReadCase s len c k o → read s len c k ≡ o
   given (no-sheet h) = cases (is-bad-length s len) read-length (λ a. absurd (h (good-length s len a)))
   given (too-many g l) = read-distance (passes-length s len g) l
   given (past-last g l h) = read-none (passes-length s len g) l h
-  given (there g l h) = read-at (passes-length s len g) l h
+  given (there {r = r} g l h f) = read-row (passes-length s len g) l h ∙ ap accepted (sym (row-only s len c k h r f))
 
   pub read-exactly : (o : Outcome Record) → (read s len c k ≡ o) ↔ ReadCase s len c k o
   read-exactly o = (λ e. rw e at read-case, given)

@@ -1,18 +1,22 @@
--- A heading, good records, their trailer and anything after it are a sheet that is accepted, and its records are those.
--- Assumes nothing.
+-- A heading, good records, their trailer and anything after it are a sheet that is accepted, and its records and its trailer are
+-- those. Assumes nothing.
 use mathlib.Core.Path.{_≡_, refl, sym, ap, _∙_}
 use mathlib.Core.List.{List, _++_, append-assoc}
 use Prim.Native.Nat.{ℕ, _+_, _-_, _*_, _^_, _≤_, _<_}
 use native.Mathlib.Omega.{arith}
 use lib.ListN.{length, length-append}
+use lib.Seq.{take-at, drop-at}
+use Rattle.records.specs.Parts.{part}
 use Rattle.records.specs.Rows.{records, joined, Ascending}
 use Rattle.records.proofs.Rows.{Each, length-joined, records-joined}
 use Rattle.sheet.specs.Layout.{sheet-limit, record-length, trailer-length, trailer, trailer-values, trailer-from, trailer-at}
+use Rattle.sheet.specs.Bytes.{TrailerOf}
 use Rattle.sheet.specs.Checking.{first, rows}
 use Rattle.sheet.specs.Cases.{GoodFrame, HasOctagon}
 use Rattle.sheet.proofs.Frames.{framed-when}
 use Rattle.sheet.proofs.Checks.{Good}
 use Rattle.sheet.proofs.TrailerBytes.{length-trailer, trailer-again}
+use Rattle.sheet.proofs.TrailerFields.{trailer-written}
 
 -- c records rs after the heading h, their trailer, and d after it
 abbrev pub sheet : List ℕ → List (List ℕ) → ℕ → List ℕ → List ℕ
@@ -41,6 +45,11 @@ module _ (h : List ℕ) (rs : List (List ℕ)) (c : ℕ) (d : List ℕ) (len : �
         distance = rw z (record { distance-is = refl; near = omega arith });
         count = rw z;
       }
+
+  pub sheet-trailer : len ≤ sheet-limit → TrailerOf c (part (sheet h rs c d) (len - trailer-length) trailer-length)
+  sheet-trailer k =
+      rw (append-assoc (h ++ joined rs) (trailer c) d, drop-at (h ++ joined rs) (trailer c ++ d) (len - trailer-length) front, take-at (trailer c) d trailer-length (length-trailer c))
+      (trailer-written c (omega arith))
 
   pub sheet-rows : rows (sheet h rs c d) len c ≡ rs
   sheet-rows =

@@ -1,5 +1,5 @@
--- Each answer of `check` and of `read` with what it says of the sheet, in the words of document 01. proofs/CheckCases.antt and
--- proofs/ReadCases.antt show that each is given exactly where its case holds. Assumes nothing.
+-- Each answer of `check`, `fetch` and `read` with what it says of the sheet, in the words of document 01. proofs/CheckCases.antt,
+-- proofs/FetchCases.antt and proofs/ReadCases.antt show that each is given exactly where its case holds. Assumes nothing.
 use mathlib.Core.Path.{_≡_}
 use mathlib.Core.List.{List, _∷_}
 use Prim.Native.Nat.{ℕ, _+_, _-_, _*_, _≤_, _<_}
@@ -15,8 +15,9 @@ use Rattle.records.specs.Rows.{key, Ascending}
 use Rattle.sheet.specs.declared.Record.{Record}
 use Rattle.sheet.specs.declared.trailer.Trailer.{Trailer}
 use Rattle.sheet.specs.Layout.{sheet-limit, record-length, trailer-length, letters, trailer-at, decoded}
+use Rattle.sheet.specs.Bytes.{RecordFields}
 use Rattle.sheet.specs.Answers.{bad-length, bad-trailer, bad-distance, bad-number, no-record}
-use Rattle.sheet.specs.Checking.{first, rows}
+use Rattle.sheet.specs.Checking.{rows}
 
 -- ---- the frame: the length and the trailer
 
@@ -74,13 +75,25 @@ pub data CheckCase (s : List ℕ) (len : ℕ) : Outcome ℕ → Type 0 where
   faulty : {c e : ℕ} → GoodFrame s len c → Faulty 0 (rows s len c) e → CheckCase s len (refused e)
   right : {c : ℕ} → GoodFrame s len c → Ascending HasOctagon 0 (rows s len c) → CheckCase s len (accepted c)
 
+-- ---- fetch record k
+
+-- record k of c records is r: its fields stand in the 24 bytes that are 24 times k past the first record, which stands 24 times the
+-- count before the trailer
+abbrev pub RecordAt : List ℕ → ℕ → ℕ → ℕ → Record → Type 0
+RecordAt s len c k r = RecordFields (part s (len - trailer-length - record-length * c + record-length * k) record-length) r
+
+-- "The check's refusals, then 13 when k is not below the count"; else "its plot number and outline"
+pub data FetchCase (s : List ℕ) (len k : ℕ) : Outcome Record → Type 0 where
+  not-checked : {e : ℕ} → CheckCase s len (refused e) → FetchCase s len k (refused e)
+  past-count : {c : ℕ} → CheckCase s len (accepted c) → c ≤ k → FetchCase s len k (refused no-record)
+  fetches : {c : ℕ} {r : Record} → CheckCase s len (accepted c) → k < c → RecordAt s len c k r → FetchCase s len k (accepted r)
+
 -- ---- read record k of c records
 
 -- 8 as above; 10 when the distance of c records exceeds the length less 16; "13 when k is not below the count"; else the record
--- of the bytes at its place
+-- of the bytes at its place, which is that of a fetched one
 pub data ReadCase (s : List ℕ) (len c k : ℕ) : Outcome Record → Type 0 where
   no-sheet : ¬ (GoodLength s len) → ReadCase s len c k (refused bad-length)
   too-many : GoodLength s len → len - trailer-length < record-length * c → ReadCase s len c k (refused bad-distance)
   past-last : GoodLength s len → record-length * c ≤ len - trailer-length → c ≤ k → ReadCase s len c k (refused no-record)
-  there : GoodLength s len → record-length * c ≤ len - trailer-length → k < c
-      → ReadCase s len c k (accepted (decoded (part s (first len c + record-length * k) record-length)))
+  there : {r : Record} → GoodLength s len → record-length * c ≤ len - trailer-length → k < c → RecordAt s len c k r → ReadCase s len c k (accepted r)

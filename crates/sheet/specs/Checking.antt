@@ -1,5 +1,5 @@
--- What `check`, `fetch` and `read` answer: definitions that compute. proofs/CheckCases.antt and proofs/ReadCases.antt say exactly when
--- each answer of `check` and of `read` is given, proofs/Checks.antt what `fetch` answers. Assumes nothing.
+-- What `check`, `fetch` and `read` answer: definitions that compute. proofs/CheckCases.antt, proofs/FetchCases.antt and
+-- proofs/ReadCases.antt say exactly when each answer is given. Assumes nothing.
 use mathlib.Core.Bool.{Bool, cond, not, _||_}
 use mathlib.Core.List.{List, [], _∷_}
 use Prim.Native.Nat.{ℕ, _+_, _-_, _*_, _≤_}

@@ -1,17 +1,18 @@
 -- What `start` and `insert` answer and leave in the buffer: definitions that compute, and for each call what document 01 says of an
 -- accepted one (`StartedSheet`, `GrownSheet`), which proofs/Starts.antt and proofs/Grown.antt show of them. Assumes nothing.
 use mathlib.Core.Path.{_≡_}
-use mathlib.Core.Bool.{cond, _||_}
+use mathlib.Core.Bool.{Bool, cond, _||_}
 use mathlib.Core.List.{List, _++_}
-use Prim.Native.Nat.{ℕ, suc, _+_, _≤_, _<_}
+use Prim.Native.Nat.{ℕ, suc, _+_, _-_, _≤_, _<_}
 use lib.ListN.{length, take, drop}
 use lib.Dec.{ltb, eqb}
 use Rattle.octagon.specs.Outcome.{Outcome, accepted, refused, then, left}
 use Rattle.outline.specs.Tracing.{traced}
-use Rattle.records.specs.Parts.{splice}
+use Rattle.records.specs.Parts.{part, splice}
 use Rattle.records.specs.Rows.{joined, present, put-in-order}
 use Rattle.sheet.specs.declared.Record.{Record}
 use Rattle.sheet.specs.Layout.{sheet-limit, record-length, trailer-length, trailer, encoded}
+use Rattle.sheet.specs.Bytes.{TrailerOf}
 use Rattle.sheet.specs.Answers.{bad-length, bad-number, no-room}
 use Rattle.sheet.specs.Checking.{first, rows, checked, fetched}
 
@@ -27,24 +28,30 @@ started s h =
 unfoldable pub after-start : List ℕ → ℕ → List ℕ
 after-start s h = left s (started s h) (λ _. splice s h (trailer 0))
 
--- what an accepted start leaves in s, which is then s′
+-- what an accepted start that answers n leaves in s, which is then s′
 pub record StartedSheet (s s′ : List ℕ) (h n : ℕ) : Type 0 where
   -- it answers h + 16, and the sheet checks with no records
   pub length-is : n ≡ h + trailer-length
   pub checks : checked s′ n ≡ accepted 0
-  -- only the trailer's bytes are written, after the heading
+  -- only the trailer's bytes are written, after the heading, "with distance and count 0"
+  pub trailer-is : TrailerOf 0 (part s′ h trailer-length)
   pub heading : take h s′ ≡ take h s
   pub past : drop n s′ ≡ drop n s
   pub same-length : length s′ ≡ length s
 
 -- ---- insert a plot
 
--- whether a record with the number v may go into a sheet of c records: 11 when v is 0 or present, 12 when the new length exceeds
--- the buffer or the limit
+-- the number v is 0, or one of c records has it
+abbrev pub is-bad-number : List ℕ → ℕ → ℕ → ℕ → Bool
+is-bad-number s len v c = eqb v 0 || present v (rows s len c)
+
+-- the new length exceeds the buffer or the limit
+abbrev pub has-no-room : List ℕ → ℕ → Bool
+has-no-room s len = ltb (length s) (len + record-length) || ltb sheet-limit (len + record-length)
+
+-- whether a record with the number v may go into a sheet of c records: 11, then 12
 unfoldable pub admitted : List ℕ → ℕ → ℕ → ℕ → Outcome ℕ
-admitted s len v c =
-    cond (eqb v 0 || present v (rows s len c)) (refused bad-number)
-    (cond (ltb (length s) (len + record-length) || ltb sheet-limit (len + record-length)) (refused no-room) (accepted c))
+admitted s len v c = cond (is-bad-number s len v c) (refused bad-number) (cond (has-no-room s len) (refused no-room) (accepted c))
 
 -- the number of records that a sheet has where it may take one with the number v: the check's refusals, 11 and 12
 unfoldable pub vetted : List ℕ → ℕ → ℕ → Outcome ℕ
@@ -66,16 +73,20 @@ grown s len c b = take (first len c) s ++ joined (put-in-order b (rows s len c))
 unfoldable pub after-insert : List ℕ → ℕ → Record → List ℕ
 after-insert s len r = left s (insertion s len r) (λ c. grown s len c (encoded r))
 
--- s′ is the sheet s of len bytes and c records with the record r inserted
-pub record GrownSheet (s s′ : List ℕ) (len c : ℕ) (r : Record) : Type 0 where
-  -- it checks, with one record more
-  pub checks : checked s′ (len + record-length) ≡ accepted (c + 1)
+-- what an accepted insert of the record r that answers n leaves in s, a sheet of len bytes and c records, which is then s′
+pub record GrownSheet (s s′ : List ℕ) (len c : ℕ) (r : Record) (n : ℕ) : Type 0 where
+  -- it answers the new length, and the sheet checks with one record more
+  pub length-is : n ≡ len + record-length
+  pub counted : checked s len ≡ accepted c
+  pub checks : checked s′ n ≡ accepted (c + 1)
   -- the new record is fetched at its place, the old ones before and after it in their order
   pub at : ℕ
-  pub before : (k : ℕ) → k < at → fetched s′ (len + record-length) k ≡ fetched s len k
-  pub here : fetched s′ (len + record-length) at ≡ accepted r
-  pub after : (k : ℕ) → at ≤ k → fetched s′ (len + record-length) (suc k) ≡ fetched s len k
+  pub before : (k : ℕ) → k < at → fetched s′ n k ≡ fetched s len k
+  pub here : fetched s′ n at ≡ accepted r
+  pub after : (k : ℕ) → at ≤ k → fetched s′ n (suc k) ≡ fetched s len k
+  -- "with the trailer brought up to date"
+  pub trailer-is : TrailerOf (c + 1) (part s′ (n - trailer-length) trailer-length)
   -- heading and bytes past the new length keep their values
   pub heading : take (first len c) s′ ≡ take (first len c) s
-  pub past : drop (len + record-length) s′ ≡ drop (len + record-length) s
+  pub past : drop n s′ ≡ drop n s
   pub same-length : length s′ ≡ length s

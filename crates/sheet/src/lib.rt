@@ -1,7 +1,8 @@
 // Sheets of plots in lent buffers: a heading, records by rising plot number, and a trailer.
 //
-// specs/Layout.antt has the bytes of a record and of a trailer, specs/Checking.antt what `check`, `fetch` and `read` answer,
-// specs/Cases.antt when each answer of `check` and `read` is given, specs/Writing.antt what `start` and `insert` answer and leave.
+// specs/Layout.antt has the bytes of a record and of a trailer, specs/Bytes.antt the place of each field; specs/Checking.antt what
+// `check`, `fetch` and `read` answer, specs/Cases.antt when each of these answers is given; specs/Writing.antt what `start` and `insert`
+// answer and leave, specs/WritingCases.antt when each of their answers is given.
 ghost use mathlib.Core.Path.{_≡_};
 ghost use Rattle.sheet.specs.Answers.{«count-outcome», «record-outcome», «length-outcome»};
 ghost use Rattle.sheet.specs.Checking.{checked, fetched, read as «read-of»};
