@@ -13,31 +13,47 @@ use Rattle.outline.specs.Walk.{vertex}
 use Rattle.outline.specs.Closing.{closes}
 use Rattle.outline.specs.Tracing.{bounds-at, drawn, traced}
 use Rattle.records.specs.Numbers.{signed, twos}
+use Rattle.records.specs.Rows.{joined}
 use Rattle.sheet.specs.Checking.{stated, framed, judged, surveyed, checked}
 use Rattle.records.specs.Text.{ascii}
+use Rattle.sheet.proofs.Computed.{seven, thirteenth}
 use Rattle.report.specs.Decimal.{decimal, signed-decimal}
-use Rattle.report.specs.Lines.{heading-line, row-line, last-line, refused-line}
+use Rattle.report.specs.Lines.{space, heading-line, row-line, last-line, refused-line}
 use Rattle.report.specs.Listing.{cell-number, plots, row-of, full, listing}
+use Rattle.report.specs.ReadBack.{divided}
 
--- record 7 is start (2,-1), n0=3 n2=1 n4=3 n6=1; record 11407 is K13
-seventh : Record
-seventh = record { number = 7; outline = record { i = pos 2; j = negsuc 0; n0 = 3; n1 = 0; n2 = 1; n3 = 0; n4 = 3; n5 = 0; n6 = 1; n7 = 0 } }
+-- a plot whose numbers all differ, in 174 cells, and the whole map under the number v, in 32001 * 32001
+uneven : Record
+uneven = record { number = 70001; outline = record { i = negsuc 3; j = negsuc 4; n0 = 3; n1 = 1; n2 = 14; n3 = 2; n4 = 5; n5 = 4; n6 = 6; n7 = 7 } }
 
-piece : Record
-piece = record { number = 11407; outline = record { i = pos 0; j = pos 0; n0 = 0; n1 = 1; n2 = 0; n3 = 1; n4 = 0; n5 = 1; n6 = 0; n7 = 1 } }
+whole : ℕ → Record
+whole v =
+    record { number = v; outline = record { i = negsuc 15999; j = negsuc 15999; n0 = 32000; n1 = 0; n2 = 32000; n3 = 0; n4 = 32000; n5 = 0; n6 = 32000; n7 = 0 } }
 
--- document 01's sheet after a heading of two bytes, one of no plots, no bytes at all, a spoilt letter, and falling numbers
+-- document 01's sheet after a heading of two bytes, the uneven plot, the whole map five times, whose cells together exceed 2 ^ 32, a sheet
+-- of no plots, no bytes at all, a spoilt letter, and falling numbers
 sheets : List (List ℕ)
 sheets =
-    (1 ∷ 2 ∷ encoded seventh ++ (encoded piece ++ trailer 2)) ∷ trailer 0 ∷ [] ∷ (trailer 0 ++ (0 ∷ [])) ∷ (encoded piece ++ (encoded seventh ++ trailer 2)) ∷ []
+    (1 ∷ 2 ∷ encoded seven ++ (encoded thirteenth ++ trailer 2)) ∷ (encoded uneven ++ trailer 1) ∷
+    (joined (map (λ v. encoded (whole v)) (1 ∷ 2 ∷ 3 ∷ 4 ∷ 5 ∷ [])) ++ trailer 5) ∷
+    trailer 0 ∷ [] ∷ (trailer 0 ++ (0 ∷ [])) ∷ (encoded thirteenth ++ (encoded seven ++ trailer 2)) ∷ []
 
 texts : List (List ℕ)
 texts =
     ascii "plot i j n0 n1 n2 n3 n4 n5 n6 n7 cells\n7 2 -1 3 0 1 0 3 0 1 0 8\n11407 0 0 0 1 0 1 0 1 0 1 5\nplots 2 cells 13\n" ∷
+    ascii "plot i j n0 n1 n2 n3 n4 n5 n6 n7 cells\n70001 -4 -5 3 1 14 2 5 4 6 7 174\nplots 1 cells 174\n" ∷
+    joined (
+    ascii "plot i j n0 n1 n2 n3 n4 n5 n6 n7 cells\n" ∷
+    ascii "1 -16000 -16000 32000 0 32000 0 32000 0 32000 0 1024064001\n" ∷
+    ascii "2 -16000 -16000 32000 0 32000 0 32000 0 32000 0 1024064001\n" ∷
+    ascii "3 -16000 -16000 32000 0 32000 0 32000 0 32000 0 1024064001\n" ∷
+    ascii "4 -16000 -16000 32000 0 32000 0 32000 0 32000 0 1024064001\n" ∷
+    ascii "5 -16000 -16000 32000 0 32000 0 32000 0 32000 0 1024064001\n" ∷
+    ascii "plots 5 cells 5120320005\n" ∷ []) ∷
     ascii "plot i j n0 n1 n2 n3 n4 n5 n6 n7 cells\nplots 0 cells 0\n" ∷ ascii "refused 8\n" ∷ ascii "refused 9\n" ∷ ascii "refused 11\n" ∷ []
 
 listed : map (λ s. listing s (length s)) sheets ≡ texts
-unfolding sheets texts seventh piece encoded decoded trailer trailer-at checked framed stated surveyed judged twos signed traced drawn bounds-at vertex closes placed is-on-map cell-count normalised normal-form tight-even tight-odd even-bound odd-bound has-cell minℤ halfℤ area rectangle cuts triangle listing full plots row-of cell-number heading-line row-line last-line refused-line decimal signed-decimal
+unfolding sheets texts uneven whole encoded decoded trailer trailer-at checked framed stated surveyed judged twos signed traced drawn bounds-at vertex closes placed is-on-map cell-count normalised normal-form tight-even tight-odd even-bound odd-bound has-cell minℤ halfℤ area rectangle cuts triangle listing full plots row-of cell-number heading-line row-line last-line refused-line decimal signed-decimal
 listed = refl
 
 -- numbers at the ends of their ranges
@@ -48,3 +64,8 @@ numbers = refl
 integers : map signed-decimal (pos 0 ∷ negsuc 0 ∷ pos 2147483647 ∷ negsuc 2147483647 ∷ []) ≡ ascii "0" ∷ ascii "-1" ∷ ascii "2147483647" ∷ ascii "-2147483648" ∷ []
 unfolding decimal signed-decimal
 integers = refl
+
+-- a text and its words
+words-apart : divided space (ascii "ab  c ") ≡ ascii "ab" ∷ [] ∷ ascii "c" ∷ [] ∷ []
+unfolding divided
+words-apart = refl

@@ -6,4 +6,7 @@ pub mod Numbers
 pub mod Plots
 pub mod Lengths
 pub mod Listings
+pub mod Divisions
+pub mod LinesRead
+pub mod ReadBacks
 pub mod Examples

@@ -1,7 +1,7 @@
--- What a listing has, in the words of document 01. Assumes nothing.
-use mathlib.Core.Path.{_≡_, refl, ap, _∙_}
-use mathlib.Core.List.{List, [], _∷_, _++_, map}
-use Prim.Native.Nat.{ℕ, zero, suc, _<_}
+-- The lines of a listing, and the cells of its plots. Assumes nothing.
+use mathlib.Core.Path.{_≡_, _∙_}
+use mathlib.Core.List.{List, [], _++_}
+use Prim.Native.Nat.{ℕ, _<_}
 use native.Mathlib.Omega.{arith}
 use lib.ListN.{length, getD, List·getD-map}
 use Rattle.octagon.specs.declared.Octagon.{Octagon}
@@ -15,10 +15,11 @@ use Rattle.records.proofs.Order.{ascending-at}
 use Rattle.sheet.specs.declared.Record.{Record}
 use Rattle.sheet.specs.Layout.{record-length, decoded}
 use Rattle.sheet.specs.Checking.{first, rows, checked}
-use Rattle.sheet.proofs.Checks.{checked-good, fetched-row}
+use Rattle.sheet.proofs.Checks.{checked-good}
 use Rattle.report.specs.Lines.{heading-line, last-line, refused-line}
-use Rattle.report.specs.Listing.{cell-number, plots, row-of, rows-of, total-cells, full, listing, CountedOutline, PlotRow}
-use Rattle.report.proofs.Plots.{length-plots}
+use Rattle.report.specs.Listing.{cell-number, plots, rows-of, total-cells, full, listing}
+use Rattle.report.specs.ReadBack.{CountedOutline}
+use Rattle.report.proofs.Plots.{plot, length-plots}
 
 -- ---- the lines
 
@@ -40,7 +41,7 @@ listing-lines s len c e = listing-accepted s len c e ∙ counted (plots s len c)
     counted : (rs : List Record) → length rs ≡ c → full rs ≡ heading-line ++ (rows-of rs ++ last-line c (total-cells rs))
     counted rs e = rw e
 
--- ---- the rows
+-- ---- the cells
 
 pub cells-counted : (o : Outline) (a : Octagon) → traced o ≡ accepted a → CountedOutline o (cell-number o)
 unfolding cell-number
@@ -48,24 +49,11 @@ cells-counted o a e =
     let m = accepted-means o a e in
     record { octagon = a; is-octagon = e; same-cells = m .same-cells; number = rw (e, count-when a (m .is-normalised .some) (m .on-the-map)) }
 
--- element k of a list that is mapped
-map-at : (f : Record → List ℕ) (rs : List Record) (k : ℕ) (d : Record) → k < length rs → getD (map f rs) k [] ≡ f (getD rs k d)
-map-at f [] k d h = absurd (omega arith)
-map-at f (r ∷ rs) zero d h = refl
-map-at f (r ∷ rs) (suc k) d h = map-at f rs k d (omega arith)
-
--- a listing has a row for each record
-pub rows-fetched : (s : List ℕ) (len c k : ℕ) → checked s len ≡ accepted c → k < c → PlotRow s len k (getD (map row-of (plots s len c)) k [])
-unfolding plots row-of
-rows-fetched s len c k e h =
-    let n : k < length (plots s len c) = omega (arith, length-plots s len c) in
+-- the cells inside the outline of each record
+pub plot-counted : (s : List ℕ) (len c k : ℕ) → checked s len ≡ accepted c → k < c →
+    let o = plot (plots s len c) k .outline in CountedOutline o (cell-number o)
+unfolding plots
+plot-counted s len c k e h =
     let l : k < length (rows s len c) = omega (arith, length-records record-length s (first len c) c) in
-    let b = getD (rows s len c) k [] in
     let t = ascending-at k l (checked-good s len c e .records) in
-    record {
-      plot = decoded b;
-      cell-number = cell-number (decoded b .outline);
-      is-fetched = fetched-row s len c k e h;
-      is-counted = cells-counted (decoded b .outline) (t .0) (t .1);
-      text = map-at row-of (map decoded (rows s len c)) k (decoded []) n ∙ ap row-of (List·getD-map decoded (rows s len c) k []);
-    }
+    rw (List·getD-map decoded (rows s len c) k []) (cells-counted (decoded (getD (rows s len c) k []) .outline) (t .0) (t .1))

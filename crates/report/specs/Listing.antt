@@ -1,21 +1,15 @@
--- The listing of a sheet, as the program of document 01 writes it: a definition that computes; and what a row says of its record
--- (`PlotRow`), which proofs/Listings.antt shows of it. Assumes nothing.
-use mathlib.Core.Path.{_≡_}
+-- The listing of a sheet, as the program of document 01 writes it: a definition that computes. Assumes nothing.
 use mathlib.Core.List.{List, [], _∷_, _++_, map}
 use Prim.Native.Nat.{ℕ, _+_, _-_, _*_, _/_}
 use lib.ListN.{length}
-use Rattle.octagon.specs.declared.Octagon.{Octagon}
 use Rattle.octagon.specs.Outcome.{Outcome, accepted, refused, then}
-use Rattle.octagon.specs.Cells.{_≐_, In, limit}
-use Rattle.cell_count.specs.Count.{count, inside}
 use Rattle.cell_count.specs.Area.{cell-count}
 use Rattle.outline.specs.declared.Outline.{Outline}
-use Rattle.outline.specs.Walk.{InsideWalk}
 use Rattle.outline.specs.Tracing.{traced}
 use Rattle.records.specs.Rows.{joined}
 use Rattle.sheet.specs.declared.Record.{Record}
 use Rattle.sheet.specs.Layout.{sheet-limit, record-length, trailer-length, decoded}
-use Rattle.sheet.specs.Checking.{rows, checked, fetched}
+use Rattle.sheet.specs.Checking.{rows, checked}
 use Rattle.report.specs.Lines.{heading-line, row-line, last-line, refused-line}
 
 -- a count, and 0 for a refusal
@@ -55,23 +49,6 @@ text-of s len (refused k) = refused-line k
 -- the listing of the sheet in the first len bytes of s
 unfoldable pub listing : List ℕ → ℕ → List ℕ
 listing s len = text-of s len (checked s len)
-
--- ---- a row in the words of document 01
-
--- the outline o is accepted, and n is the number of cells inside it
-pub record CountedOutline (o : Outline) (n : ℕ) : Type 0 where
-  pub octagon : Octagon
-  pub is-octagon : traced o ≡ accepted octagon
-  pub same-cells : In octagon ≐ InsideWalk o
-  pub number : n ≡ count limit (inside octagon)
-
--- the text b is the row of record k: the record that `fetch` gives for k, and the number of cells inside its outline
-pub record PlotRow (s : List ℕ) (len k : ℕ) (b : List ℕ) : Type 0 where
-  pub plot : Record
-  pub cell-number : ℕ
-  pub is-fetched : fetched s len k ≡ accepted plot
-  pub is-counted : CountedOutline (plot .outline) cell-number
-  pub text : b ≡ row-line plot cell-number
 
 -- ---- how long a listing can be
 

@@ -1,7 +1,7 @@
 // The listing of a sheet as text.
 //
-// specs/Decimal.antt has numbers as text, specs/Lines.antt the lines, specs/Listing.antt the whole listing; proofs/Decimals.antt and
-// proofs/Listings.antt say what they mean.
+// specs/Decimal.antt has numbers as text, specs/Lines.antt the lines, specs/Listing.antt the whole listing, specs/ReadBack.antt what its
+// text says when it is read back; proofs/Decimals.antt and proofs/ReadBacks.antt show that it says so.
 ghost use mathlib.Core.Path.{_≡_};
 ghost use lib.ListN.{length};
 ghost use Rattle.records.specs.Parts.{splice};
