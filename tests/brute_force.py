@@ -6,11 +6,13 @@ Run from the repository's root:
 
 It shares with the program the thirteen pieces, the sequence of drawn ones and the form of the output, and none of its
 code. A set is a Python set of cells (x, y) with no edge and no window. Sums, positions that fit, the cells to the left of a
-side and opposed diagonal rows are taken word for word from the definitions. "agreed" is the number of comparisons that the
-program makes, since every answer has to agree.
+side and opposed diagonal rows are taken word for word from the definitions. The triangles of a split are picked from all the
+ways to take pieces from what the rows leave until nothing is left. "agreed" is the number of comparisons that the program
+makes, since every answer has to agree.
 """
 
 from fractions import Fraction
+from functools import cache
 
 MOST = 2**31 - 1
 LIMIT = 16000
@@ -171,7 +173,7 @@ def corner_row(some, k):
     return row(lifted(corner))
 
 
-# ---- drawn octagons
+# ---- pieces
 
 PIECES = [
     [1, 0, 0, 0, 1, 0, 0, 0],
@@ -188,6 +190,38 @@ PIECES = [
     [0, 0, 2, 0, 0, 1, 0, 1],
     [0, 1, 0, 1, 0, 1, 0, 1],
 ]
+
+
+# the kinds K5 to K12 that stand together
+TOGETHER = [{6, 11}, {8, 10}, {5, 9}, {7, 11}, {8, 12}, {6, 9}, {7, 10}, {5, 12}]
+
+
+@cache
+def makings(sides, least=5):
+    """All the ways to make sides of the pieces K5 to K12, each as its kinds in rising order."""
+    if not any(sides):
+        return [()]
+    return [
+        (k, *others)
+        for k in range(least, 13)
+        if all(a >= b for a, b in zip(sides, PIECES[k - 1]))
+        for others in makings(tuple(a - b for a, b in zip(sides, PIECES[k - 1])), k)
+    ]
+
+
+def split(sides):
+    """The thirteen counts by the rule, of which one choice fits."""
+    counts = [min(sides[k], sides[k + 4]) for k in range(4)]
+    rest = tuple(n - counts[k % 4] for k, n in enumerate(sides))
+    (chosen,) = [kinds for kinds in makings(rest) if any(set(kinds) <= pair for pair in TOGETHER)]
+    counts += [chosen.count(k) for k in range(5, 13)]
+    k1, k2, k3, k4, *others = counts
+    if k2 >= 1 and k4 >= 1 and not any([k1, k3, *others]):
+        return [0, k2 - 1, 0, k4 - 1] + [0] * 8 + [1]
+    return counts + [0]
+
+
+# ---- drawn octagons
 
 
 def bytes_from(seed):
@@ -231,9 +265,9 @@ class Kind:
         self.numbers = [0] * 8
         self.digest = 0
 
-    def note(self, expected):
+    def note(self, expected, counts=()):
         self.numbers[expected[10]] += 1
-        for value in expected:
+        for value in [*expected, *counts]:
             self.digest = (self.digest * 31 + value) % 1000000007
 
 
@@ -255,6 +289,14 @@ def compare_operand(pair, some):
     CALLS["to_outline"].note(refused(number) if number else outline_row(*outline(some)))
     CALLS["vertex_place"].note(refused(number) if number else corner_row(some, pair % 9))
     return number
+
+
+def compare_split(number, some):
+    if number:
+        CALLS["decompose"].note(refused(number), [0] * 13)
+    else:
+        start, sides = outline(some)
+        CALLS["decompose"].note(outline_row(start, sides), split(sides))
 
 
 def compare_back(pair, some):
@@ -291,7 +333,7 @@ def compare_folds(p, e):
 def compare(pair, plot, element):
     p, e = cells(*plot), cells(*element)
     first, second = compare_operand(pair, p), compare_operand(pair, e)
-    CALLS["decompose"].note(refused(first) if first else outline_row(*outline(p)))
+    compare_split(first, p)
     if p:
         compare_back(pair, p)
     if first or second:

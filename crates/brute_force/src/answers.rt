@@ -56,7 +56,7 @@ fn number_of(bench: &Bench, set: usize, empty: usize) -> usize
 
 // Expects the ten numbers of a row, or with a number that is not 0 a refusal, which has no others.
 pub fn expect_row(bench: &mut Bench, row: usize, number: usize)
-    requires { ⌜ row < 336 ⌝ }
+    requires { ⌜ row < 352 ⌝ }
 {
     let mut k = 0;
     while k < 10 {
@@ -108,7 +108,7 @@ pub fn is_answer(bench: &Bench, given: Answer) -> bool {
 }
 
 fn bound(bench: &Bench, row: usize, k: usize) -> i32
-    requires { ⌜ row < 336 ⌝ }
+    requires { ⌜ row < 352 ⌝ }
     requires { ⌜ k < 16 ⌝ }
 {
     lowered(get(bench, row, k))
@@ -116,7 +116,7 @@ fn bound(bench: &Bench, row: usize, k: usize) -> i32
 
 // An operand as the library takes it.
 pub fn octagon(bench: &Bench, row: usize) -> Octagon
-    requires { ⌜ row < 336 ⌝ }
+    requires { ⌜ row < 352 ⌝ }
 {
     Octagon {
         c0: bound(bench, row, 0),

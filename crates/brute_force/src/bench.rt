@@ -4,7 +4,7 @@
 // for the SIZE cells of a window and a 0 for what is off it; a set has a number, and its window a place in the row of the places.
 ghost use Prim.Native.Nat.{_<_};
 
-pub type Bench = [usize; 9944];
+pub type Bench = [usize; 9960];
 
 // The operands, eight bounds each, the plot's and then the element's.
 pub const OPERANDS: usize = 192;
@@ -34,8 +34,11 @@ pub const ZEROS: usize = 304;
 // A corner: its column and row, and zeros.
 pub const CORNER: usize = 320;
 
+// The counts of K1 to K13 by document 01's rule, and 1 where one choice fits.
+pub const COUNTS: usize = 336;
+
 // Where the sets begin: the plot's cells, the element's, those worked out so far, and those of the next step.
-pub const SETS: usize = 336;
+pub const SETS: usize = 352;
 
 pub const SPAN: usize = 2402;
 
@@ -51,7 +54,7 @@ pub const LIFT: usize = 4294967296;
 
 // Number k of a row.
 pub fn get(bench: &Bench, row: usize, k: usize) -> usize
-    requires { ⌜ row < 336 ⌝ }
+    requires { ⌜ row < 352 ⌝ }
     requires { ⌜ k < 16 ⌝ }
 {
     bench[row + k]

@@ -1,7 +1,7 @@
 // Compares the library with sets of cells that are enumerated one by one, on small octagons anywhere on the map and past its edge.
 //
-// What is expected comes from document 01's eight inequalities and steps and the set definitions 2.12 to 2.17 of source document 002
-// alone; no call of the library is made for it. tests/brute_force.py works the output out by itself.
+// What is expected comes from document 01's eight inequalities and steps, its rule for the counts of a split, and the set definitions 2.12
+// to 2.17 of source document 002 alone; no call of the library is made for it. tests/brute_force.py works the output out by itself.
 mod answers;
 mod bench;
 mod corners;
@@ -11,6 +11,7 @@ mod operands;
 mod operations;
 mod outlines;
 mod pieces;
+mod rule;
 mod sets;
 mod tally;
 mod walks;
@@ -34,7 +35,7 @@ fn compare(bench: &mut Bench) {
 }
 
 fn main() {
-    let mut bench = [0; 9944];
+    let mut bench = [0; 9960];
     let mut k = 0;
     while k < PAIRS {
         bench[PAIR] = k;

@@ -3,6 +3,7 @@ use crate::answers;
 use crate::answers::is_signed;
 use crate::bench::BOUNDS;
 use crate::bench::Bench;
+use crate::bench::COUNTS;
 use crate::bench::ELEMENT;
 use crate::bench::OPERANDS;
 use crate::bench::OUTLINE;
@@ -13,6 +14,7 @@ use crate::bench::SETS;
 use crate::bench::SPAN;
 use crate::grid;
 use crate::grid::SIZE;
+use crate::rule;
 use crate::sets;
 use crate::tally;
 use crate::walks;
@@ -36,16 +38,17 @@ const SIDES: [[usize; 8]; 13] = [
     [0, 1, 0, 1, 0, 1, 0, 1],
 ];
 
-fn side(piece: usize, k: usize) -> usize {
+// Side k of a piece.
+pub fn side(piece: usize, k: usize) -> usize {
     SIDES[piece % 13][k % 8]
 }
 
-// No, one or two times a side.
-fn times(n: usize, side: usize) -> usize {
+// No, one or two times a number.
+pub fn times(n: usize, number: usize) -> usize {
     match n {
         0 => 0,
-        1 => side,
-        _ => std::num::wrapping_add_usize(side, side),
+        1 => number,
+        _ => std::num::wrapping_add_usize(number, number),
     }
 }
 
@@ -117,7 +120,7 @@ fn rebuilds(bench: &mut Bench, counts: [u32; 13]) -> bool {
     sets::is_within(bench, OPERANDS, RESULT)
 }
 
-// Whether a split has the start expected and rebuilds the plot's cells, or is refused as expected.
+// Whether a split has the start and the counts expected and rebuilds the plot's cells, or is refused as expected.
 fn is_split(bench: &mut Bench, given: Decomposed) -> bool {
     match given {
         Decomposed::Split(s) => {
@@ -125,6 +128,7 @@ fn is_split(bench: &mut Bench, given: Decomposed) -> bool {
             let counts = s.counts;
             is_signed(bench, 8, start.i)
                 & is_signed(bench, 9, start.j)
+                & rule::is_counted(bench, counts_of(counts))
                 & rebuilds(bench, counts_of(counts))
         }
         Decomposed::Refused(n) => answers::is_refused(bench, n),
@@ -134,9 +138,11 @@ fn is_split(bench: &mut Bench, given: Decomposed) -> bool {
 // The split of the plot, whose normal form is refused with a number, or accepted and walked round. The pieces take the element's set.
 pub fn compare(bench: &mut Bench, number: usize) {
     answers::expect_row(bench, OUTLINE, number);
+    rule::expect(bench);
     let agrees = is_split(
         bench,
         decomposition::decompose(answers::octagon(bench, OPERANDS)),
     );
     tally::note(bench, tally::DECOMPOSE, agrees);
+    tally::mix(bench, tally::DECOMPOSE, COUNTS, 13);
 }

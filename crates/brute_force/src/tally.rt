@@ -42,15 +42,19 @@ const COLUMNS: usize = 10;
 
 const PRIME: usize = 1000000007;
 
-// A digest, with what is expected mixed in.
-fn digested(bench: &Bench, digest: usize) -> usize {
-    let mut d = digest;
+// Mixes the first n numbers of a row into the digest of a call.
+pub fn mix(bench: &mut Bench, call: usize, row: usize, n: usize)
+    requires { ⌜ call < 12 ⌝ }
+    requires { ⌜ row < 352 ⌝ }
+    requires { ⌜ n < 16 ⌝ }
+{
+    let mut digest = get(bench, call * 16, DIGEST);
     let mut k = 0;
-    while k < 11 {
-        d = (d % PRIME * 31 + bench[EXPECTED + k] % PRIME) % PRIME;
+    while k < n {
+        digest = (digest % PRIME * 31 + bench[row + k] % PRIME) % PRIME;
         k += 1;
     }
-    d
+    bench[call * 16 + DIGEST] = digest;
 }
 
 // Writes one of the names, each of 12 bytes.
@@ -87,7 +91,7 @@ pub fn note(bench: &mut Bench, call: usize, agrees: bool)
     let row = call * 16;
     let answer = row + bench[NUMBER] % 8;
     let agreed = row + AGREED;
-    bench[row + DIGEST] = digested(bench, get(bench, row, DIGEST));
+    mix(bench, call, EXPECTED, 11);
     bench[answer] = std::num::wrapping_add_usize(get(bench, answer, 0), 1);
     bench[agreed] = std::num::wrapping_add_usize(get(bench, agreed, 0), agrees as usize);
     if !agrees {

@@ -9,4 +9,5 @@ pub mod Added
 pub mod Exact
 pub mod Rebuilding
 pub mod Decompositions
+pub mod Exchange
 pub mod Examples

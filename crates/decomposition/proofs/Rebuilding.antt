@@ -2,7 +2,7 @@
 -- pieces make is then opposed to neither. Assumes nothing.
 use mathlib.Core.Path.{_≡_, refl, sym, _∙_}
 use mathlib.Core.List.{List, _∷_}
-use Prim.Native.Nat.{ℕ, _+_, _≤_}
+use Prim.Native.Nat.{ℕ, _≤_}
 use native.Mathlib.Omega.{arith}
 use lib.ListN.{drop}
 use Rattle.integers.proofs.Parts.{up, dn}
@@ -18,7 +18,7 @@ use Rattle.morphology.proofs.SetLaws.{same-refl, same-trans, dilated-times-same
 use Rattle.decomposition.specs.declared.Start.{Start}
 use Rattle.decomposition.specs.declared.Counts.{Counts}
 use Rattle.decomposition.specs.Pieces.{outlines, piece-of, listed, Only, DilatedByEach, Rebuilt}
-use Rattle.decomposition.specs.Rule.{others, Crossed, recounted}
+use Rattle.decomposition.specs.Rule.{Crossed, recounted}
 use Rattle.decomposition.specs.Splitting.{first-counts, is-crossed, with-k13, counts, split-of}
 use Rattle.decomposition.proofs.Sides.{SameSides, made}
 use Rattle.decomposition.proofs.Choice.{counts-made}
@@ -63,12 +63,6 @@ K4-at-origin = omega arith
 
 -- ---- the two diagonal rows are never there alone
 
--- K2 and K4 are there and nothing else is, K13 included
-record Alone (k : Counts) : Type 0 where
-  some-k2 : 1 ≤ k .k2
-  some-k4 : 1 ≤ k .k4
-  no-others : others k + k .k13 ≡ 0
-
 -- the sides that all but the diagonal rows make
 abbrev wide : Counts → Outline
 wide k = made (recounted k 0 0 (k .k13))
@@ -77,20 +71,23 @@ each-wide : (k : Counts) (s : Start) → SameSides (plus-each (broad-counts k) b
 unfolding broads piece-of piece-sides outlines pieces
 each-wide k s = omega arith
 
--- in one diagonal direction as in the other they are one cell wide only where there are none
-no-rises : (k : Counts) → rises (wide k) ≡ 0 → others k + k .k13 ≡ 0
-no-rises k h = omega arith
-
-no-falls : (k : Counts) → falls (wide k) ≡ 0 → others k + k .k13 ≡ 0
+-- these are one cell wide in one diagonal direction only where they are in the other: where there are none
+no-falls : (k : Counts) → rises (wide k) ≡ 0 → falls (wide k) ≡ 0
 no-falls k h = omega arith
 
-none : (k : Counts) → others k + k .k13 ≡ 0 → (rises (wide k) ≡ 0) × (falls (wide k) ≡ 0)
-none k h = omega arith
+no-rises : (k : Counts) → falls (wide k) ≡ 0 → rises (wide k) ≡ 0
+no-rises k h = omega arith
+
+-- K2 and K4 are there and nothing else is, K13 included
+record Alone (k : Counts) : Type 0 where
+  some-k2 : 1 ≤ k .k2
+  some-k4 : 1 ≤ k .k4
+  nothing-wide : rises (wide k) ≡ 0
 
 -- what the other pieces make is opposed to no K4
 free-k4 : (k : Counts) (o : Outline) → SameSides o (wide k) → Free o K4
 unfolding piece-of piece-sides outlines pieces
-free-k4 k o w = (λ a. let z = none k (no-falls k (omega arith)) in omega arith, λ a. omega arith)
+free-k4 k o w = (λ a. let z = no-rises k (omega arith) in omega arith, λ a. omega arith)
 
 -- and what these make with some K4 is opposed to no K2
 free-k2 : (k : Counts) (o : Outline) → SameSides o (wide k) → ¬ (Alone k) → 1 ≤ k .k2 → Free (plus (k .k4) K4 o) K2
@@ -98,9 +95,9 @@ unfolding piece-of piece-sides outlines pieces
 free-k2 k o w n l = (
   λ a. omega arith,
   λ a.
-      let z : others k + k .k13 ≡ 0 = no-rises k (omega arith) in
-      let y = none k z in
-      n (record { some-k2 = l; some-k4 = omega arith; no-others = z }),
+      let z : rises (wide k) ≡ 0 = omega arith in
+      let y = no-falls k z in
+      n (record { some-k2 = l; some-k4 = omega arith; nothing-wide = z }),
 )
 
 -- ---- in that order

@@ -1,7 +1,8 @@
 // The decomposition of an octagon into thirteen pieces (document 01's split), in constant time.
 //
 // `outline::tables` has the table of the pieces, specs/Pieces.antt the set that counted pieces make, specs/Rule.antt document 01's rule
-// for the counts, specs/Splitting.antt what `decompose` answers, specs/Meaning.antt what that means, proofs/Decompositions.antt the theorems.
+// for the counts, specs/Splitting.antt what `decompose` answers, specs/Meaning.antt what that means, proofs/Decompositions.antt and
+// proofs/Exchange.antt the theorems.
 ghost use mathlib.Core.Path.{_≡_};
 ghost use Rattle.decomposition.specs.Pieces as pieces;
 ghost use Rattle.decomposition.specs.Splitting as splitting;
