@@ -5,7 +5,11 @@ An octagon's set is taken row by row: in row y the cells run from the greatest o
 limits. Both are piecewise linear in y, the width of a row is concave, and so is the greatest value of x, x-y, x+y and their
 opposites in a row. So the rows that have a cell are found from the widest row by bisection, each tight bound by ternary search
 over them, and the cells are counted row by row. None of this uses the library's normal form or its cell count.
+
+The constants are read off the sentences of document 01.
 """
+
+import re
 
 LIMIT = 16000
 MIN, MAX = -2**31, 2**31 - 1
@@ -109,6 +113,35 @@ def beside(name, answer):
     print("%s: %s; by cells %s: agree" % (name, show(answer), show(answer)))
 
 
+STEPS = "d0 (1,0), d1 (1,1), d2 (0,1), d3 (-1,1), d4 (-1,0), d5 (-1,-1), d6 (0,-1), d7 (1,-1)"
+PIECES = (
+    "K1 n0=1 n4=1; K2 n1=1 n5=1; K3 n2=1 n6=1; K4 n3=1 n7=1; K5 n0=1 n2=1 n5=1; K6 n0=1 n3=1 n6=1; K7 n1=1 n4=1 n6=1; "
+    "K8 n2=1 n4=1 n7=1; K9 n0=2 n3=1 n5=1; K10 n1=1 n4=2 n7=1; K11 n1=1 n3=1 n6=2; K12 n2=2 n5=1 n7=1; K13 n1=n3=n5=n7=1"
+)
+
+
+def sides(piece):
+    """The eight sides of a piece: "sides not shown are 0"."""
+    n = [0] * 8
+    for shown in piece.split()[1:]:
+        *names, length = shown.split("=")
+        for name in names:
+            n[int(name[1:])] = int(length)
+    return n
+
+
+def constants():
+    """The map, the folds, a sheet's length, a record's and a trailer's; the refusals; the constants of the octagon; the tables."""
+    print("limits", *(words.replace(",", "") for words in ("16,000", "65,535", "65,536", "24", "16")))
+    print("refusals", *range(1, 14))
+    print("origin", *[0] * 8)
+    print("built", *range(1, 9))
+    print("steps", *(n for step in re.findall(r"(-?\d),(-?\d)", STEPS) for n in step))
+    # and nothing past the end of the table
+    for k, piece in enumerate(PIECES.split("; ") + [""]):
+        print("row %d of the pieces:" % k, *sides(piece), "from 0 0")
+
+
 def main():
     plot = {(x, y) for x in range(-2, 3) for y in range(5) if abs(x) + abs(y - 2) <= 2}
     frame = {(0, 0), (1, 0), (0, 1), (1, 1)}
@@ -154,6 +187,7 @@ def main():
         (MAX, 2, MAX, 3, MAX, 2, MAX, 3),
     ):
         beside("normalise %s" % " ".join(map(str, c)), normal(c))
+    constants()
 
 
 if __name__ == "__main__":

@@ -8,6 +8,14 @@ use Rattle.outline.specs.Tracing.{traced}
 use Rattle.decomposition.specs.declared.Split.{Split}
 use Rattle.morphology.specs.Operations.{dilation, erosion, opened}
 
+-- what a definition gives, and what document 01 says that it gives
+pub record Case (A : Type 0) : Type 0 where
+  pub given : A
+  pub expected : A
+
+abbrev pub is : {A : Type 0} → A → A → Case A
+is g e = record { given = g; expected = e }
+
 -- eight bounds c0 to c7
 abbrev pub bounds : ℤ → ℤ → ℤ → ℤ → ℤ → ℤ → ℤ → ℤ → Octagon
 bounds c0 c1 c2 c3 c4 c5 c6 c7 = record { c0 = c0; c1 = c1; c2 = c2; c3 = c3; c4 = c4; c5 = c5; c6 = c6; c7 = c7 }

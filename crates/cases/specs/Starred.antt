@@ -18,7 +18,7 @@ use Rattle.cell_count.specs.Area.{triangle, rectangle, cuts, area, cell-count}
 use Rattle.morphology.specs.Operations.{sums, differences, is-rising, is-falling, are-opposed, dilation, erosion, opened}
 use Rattle.decomposition.specs.declared.Split.{Split}
 use Rattle.decomposition.specs.Splitting.{rest, triangles-of, with-rows, first-counts, is-crossed, with-k13, counts, split-of as split, decomposition}
-use Rattle.cases.specs.Shorthand.{bounds, outlined-by, block, three-by-three, K2, K4, K13, cell, split-by, spread, trim, open-by}
+use Rattle.cases.specs.Shorthand.{Case, is, bounds, outlined-by, block, three-by-three, K2, K4, K13, cell, split-by, spread, trim, open-by}
 
 -- an answer of one of the calls
 pub data Result : Type 0 where
@@ -28,15 +28,7 @@ pub data Result : Type 0 where
   is-cell : Bool → Result
   split-of : Outcome Split → Result
 
--- what a definition gives, and what document 01 says that it gives
-pub record Case : Type 0 where
-  pub given : Result
-  pub expected : Result
-
-abbrev is : Result → Result → Case
-is g e = record { given = g; expected = e }
-
-pub starred : List Case
+pub starred : List (Case Result)
 starred =
     -- All bounds 0: one cell.
     is (octagon-of (normalised (bounds (pos 0) (pos 0) (pos 0) (pos 0) (pos 0) (pos 0) (pos 0) (pos 0))))

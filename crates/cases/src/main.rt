@@ -1,9 +1,10 @@
 // The squared-paper cases of document 01 that are run, the README's example, and `normalise` at extreme bounds, each beside a set of cells
-// that is enumerated here. The starred cases are proved in specs/Starred.antt.
+// that is enumerated here; and the library's constants. The starred cases are proved in specs/Starred.antt.
 //
 // What is expected comes from the eight inequalities, the steps and the set definitions alone. A line has the answer, then what the cells
 // say, then whether the two agree. An octagon too large to enumerate has the answer alone. tests/cases.py works the lines out on its own.
 mod beside;
+mod numbers;
 mod operands;
 mod print;
 mod sets;
@@ -190,4 +191,5 @@ fn main() {
     corner_in_metres();
     extremes();
     extremes_beside_others();
+    numbers::tell();
 }

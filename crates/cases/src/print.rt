@@ -16,8 +16,23 @@ pub fn end() {
     text(b"\n");
 }
 
-fn natural(n: u64) {
+pub fn natural(n: u64) {
     io::print_decimal(STDOUT_FILENO, n);
+}
+
+// A number and a space before it.
+fn spaced(n: u32) {
+    text(b" ");
+    natural(n as u64);
+}
+
+// Numbers, each with a space before it.
+pub fn naturals(numbers: &[u32]) {
+    let mut k = 0;
+    while k < numbers.len() {
+        spaced(numbers[k]);
+        k += 1;
+    }
 }
 
 // A signed number and a space before it.
@@ -31,7 +46,7 @@ pub fn signed(n: u64) {
     }
 }
 
-fn bound(c: i32) {
+pub fn bound(c: i32) {
     signed(lifted(c));
 }
 
@@ -48,8 +63,8 @@ pub fn bounds(o: Octagon) {
 }
 
 fn cells(n: u32) {
-    text(b", cells ");
-    natural(n as u64);
+    text(b", cells");
+    spaced(n);
 }
 
 // A cell count.
@@ -61,8 +76,8 @@ pub fn count(c: Count) {
 }
 
 pub fn refused(number: u32) {
-    text(b" refused ");
-    natural(number as u64);
+    text(b" refused");
+    spaced(number);
 }
 
 // An answer of the library.
