@@ -17,7 +17,7 @@ import subprocess
 import sys
 import time
 
-from sheets import block, diamond, listing, record, trailer
+from sheets import SAMPLE, listing, plot, sheet
 
 PROGRAM = sys.argv[1] if len(sys.argv) > 1 else "target/bin/listing"
 UNREAD = b"listing: the input could not be read\n"
@@ -28,13 +28,8 @@ CASES = []
 # ---- sheets
 
 
-def sheet(heading, *plots):
-    return heading + b"".join(record(number, *outline) for number, outline in plots) + trailer(len(plots))
-
-
-SAMPLE = sheet(b"", (7, block(2, -1, 3, 1)), (11407, diamond(0, 0, 1)))
-NESTED = sheet(SAMPLE, (3, block(0, 0, 1, 1)))  # its heading is itself a sheet
-LARGEST = sheet(b"", *((number, diamond(0, -16000, number % 9)) for number in range(1, 2731)))  # 65,536 bytes
+NESTED = sheet(SAMPLE, (3, plot(3)))  # its heading is itself a sheet
+LARGEST = sheet(b"", *((number, plot(number)) for number in range(1, 2731)))  # 65,536 bytes
 
 
 @functools.lru_cache()

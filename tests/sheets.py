@@ -1,11 +1,12 @@
 #!/usr/bin/env python3
 """Sheets and listings by document 01, worked out apart from the crates: an own reading of the format, and cells counted one by one.
 
-    python3 tests/sheets.py write    writes crates/listing/stdin and stdout (document 01's sheet) and crates/sheet_cases/stdout
+    python3 tests/sheets.py write    writes stdin and stdout of crates/listing and crates/listing_cases, and crates/sheet_cases/stdout
     python3 tests/sheets.py try      runs target/bin/listing, as `rt check listing` leaves it, on 400 random sheets, good and spoilt
 
 Run it from the top of the repository. It needs Python 3.9 or newer and nothing else.
 """
+import functools
 import random
 import struct
 import subprocess
@@ -38,16 +39,18 @@ def inside(places, x, y):
 
 
 def cells(i, j, n):
-    """The number of cells of an outline: the cells of each row between the westmost and the eastmost that the walk passes.
-
-    Where few cells lie round it, each is tested as well. Refuses 3 when the walk does not come back to its start, 2 when some cell lies
-    off the map.
-    """
+    """The number of cells of an outline. Refuses 3 when the walk does not come back to its start, 2 when some cell lies off the map."""
     places = corners(i, j, n)
     if places[-1] != places[0]:
         raise Refused(3)
     if any(abs(x) > MAP or abs(y) > MAP for x, y in places):
         raise Refused(2)
+    return walked_cells(i, j, tuple(n))
+
+
+@functools.lru_cache(None)
+def walked_cells(i, j, n):
+    """The cells of each row between the westmost and the eastmost that the walk passes. Where few lie round it, each is tested as well."""
     west, east = {}, {}
     x, y = i, j
     walked = [(x, y)]
@@ -60,7 +63,8 @@ def cells(i, j, n):
         east[y] = max(east.get(y, x), x)
     count = sum(east[y] - west[y] + 1 for y in west)
     columns, rows = range(min(west.values()), max(east.values()) + 1), range(min(west), max(west) + 1)
-    if len(columns) * len(rows) <= 400:
+    if len(columns) * len(rows) <= 2000:
+        places = corners(i, j, n)
         assert count == sum(inside(places, x, y) for x in columns for y in rows), (i, j, n)
     return count
 
@@ -74,6 +78,11 @@ def record(number, i, j, n):
 
 def trailer(count):
     return struct.pack("<IIHH4s", 24 * count, count, 24, 0, b"GRND")
+
+
+def sheet(heading, *plots):
+    """The bytes of a sheet with these plots, each (number, outline)."""
+    return heading + b"".join(record(number, *outline) for number, outline in plots) + trailer(len(plots))
 
 
 def check(buffer, length):
@@ -140,15 +149,29 @@ def listing(buffer, length):
     return "".join(line + "\n" for line in lines)
 
 
+# ---- plots
+
+
+BLOCK = (2, -1, [3, 0, 1, 0, 3, 0, 1, 0])  # record 7 of document 01
+DIAMOND = (0, 0, [0, 1, 0, 1, 0, 1, 0, 1])  # record 11407 of document 01: K13
+PLACES = [-15500, -9001, -300, -1, 2, 515, 12345, 15477]
+
+
+def wide(i, j, n0=300):
+    """Eight different sides, six of them above 255."""
+    return (i, j, [n0, 261, 1030, 7, 1058, 12, 770, 516])
+
+
+def plot(number):
+    """Eight different sides, and i different from j."""
+    i, j = PLACES[number % 8], PLACES[(number % 8 + number % 7 + 1) % 8]
+    a, b, c, d, k5 = number % 11 * 32, number % 5 * 8, number % 7 * 48, number % 9 * 16, number % 3 * 8
+    n = [5 + a + k5, 1 + b, 8 + c + k5, 3 + d, 7 + a, 2 + b + k5, 4 + c, 6 + d]
+    assert i != j and len(set(n)) == 8 and corners(i, j, n)[-1] == (i, j)
+    return (i, j, n)
+
+
 # ---- the cases of crates/sheet_cases
-
-
-def block(i, j, across, up):
-    return (i, j, [across, 0, up, 0, across, 0, up, 0])
-
-
-def diamond(i, j, side):
-    return (i, j, [0, side, 0, side, 0, side, 0, side])
 
 
 class Cases:
@@ -160,114 +183,182 @@ class Cases:
     def say(self, text):
         self.out += text.encode() if isinstance(text, str) else bytes(text)
 
-    def written(self, call, length):
+    def say_digest(self, data):
+        digest = 0
+        for byte in data:
+            digest = (digest * 31 + byte) % 2**32
+        self.say("digest %d\n" % digest)
+
+    def tell_written(self, call, length):
+        """What a call answers, written out, and the length of the sheet after it."""
         try:
-            return call()
+            length = call()
+            self.say("length %d\n" % length)
         except Refused as r:
             self.say("refused %d\n" % r.args[0])
-            return length
+        return length
 
-    def add(self, sheet, length, number, outline):
-        return self.written(lambda: insert(sheet, length, number, *outline), length)
+    def tell_added(self, buffer, length, number, outline):
+        return self.tell_written(lambda: insert(buffer, length, number, *outline), length)
 
-    def show(self, sheet, length):
-        self.say(listing(sheet, length))
-
-    def example(self, sheet, heading):
-        length = self.written(lambda: start(sheet, heading), 0)
-        length = self.add(sheet, length, 7, block(2, -1, 3, 1))
-        return self.add(sheet, length, 11407, diamond(0, 0, 1))
-
-    def spoilt(self, back, byte):
-        sheet = bytearray(64)
-        length = self.example(sheet, 0)
-        sheet[length - back] = byte
-        self.show(sheet, length)
-
-    def wrong_lengths(self):
-        sheet = bytearray(64)
-        length = self.example(sheet, 0)
-        for n in (15, 65, 0):
-            self.show(sheet, n)
-        sheet[length - 12], sheet[length - 16] = 3, 72
-        self.show(sheet, length)
-
-    def refused_calls(self):
-        sheet = bytearray(87)
-        self.written(lambda: start(sheet, 72), 0)
-        self.written(lambda: start(sheet, 65521), 0)
-        length = self.example(sheet, 0)
-        opened = block(0, 0, 2, 1)
-        opened[2][0] = 1
-        self.add(sheet, length, 9, opened)
-        self.add(sheet, length, 9, block(15999, 0, 2, 1))
-        self.add(sheet, 15, 9, block(0, 0, 2, 1))
-        for number in (0, 7, 9):
-            self.add(sheet, length, number, block(0, 0, 2, 1))
-        for k in (1, 2):
+    def say_fetched(self, buffer, length, *places):
+        for k in places:
             try:
-                self.say("%d\n" % fetch(sheet, length, k)[0])
+                number, i, j, n, _ = fetch(buffer, length, k)
+                self.say("record " + " ".join(str(v) for v in [number, i, j] + n) + "\n")
             except Refused as r:
                 self.say("refused %d\n" % r.args[0])
-        self.show(sheet, length)
+
+    def show(self, buffer, length):
+        self.say(listing(buffer, length))
+
+    def samples(self):
+        buffer = bytearray(sheet(b"", (7, BLOCK), (11407, DIAMOND)))
+        self.show(buffer, 64)
+        self.show(buffer, self.tell_written(lambda: start(buffer, 48), 0))
+
+    def spoilt(self):
+        for at in range(64):
+            buffer = pair(64)
+            buffer[at] = (buffer[at] + 1) % 256
+            self.show(buffer, 64)
+        for changes in TWO_BYTES:
+            buffer = pair(64)
+            for at, byte in changes:
+                buffer[at] = byte
+            self.show(buffer, 64)
+        for length in (0, 15, 16, 63, 65, 2**64 - 1):
+            self.show(pair(64), length)
+
+    def orders(self):
+        for length, number, outline in (
+            (15, 0, wide(15440, 0, 301)),
+            (15, 0, wide(0, 1, 301)),
+            (15, 0, wide(15440, 0)),
+            (15, 0, wide(0, 14703)),
+            (15, 0, wide(-15485, 0)),
+            (15, 0, wide(0, -16001)),
+            (15, 0, plot(9)),
+            (63, 0, plot(9)),
+            (64, 0, plot(9)),
+            (64, 255, plot(9)),
+            (64, 511, plot(9)),
+            (64, 9, plot(9)),
+        ):
+            buffer = pair(87)
+            self.tell_added(buffer, length, number, outline)
+            self.say_digest(buffer)
+
+    def last_number(self):
+        last = 2**32 - 1
+        buffer = pair(88)
+        full = self.tell_added(buffer, 64, last, plot(last))
+        self.tell_added(buffer, full, last, plot(9))
+        self.tell_added(buffer, full, 9, plot(9))
+        self.say_fetched(buffer, full, 0, 1, 2, 3, last)
+        self.say_fetched(buffer, 87, last)
+
+    def limits(self):
+        for size, lengths in ((87, ()), (65535, ()), (65536, (65536,)), (65537, (65536, 65537))):
+            buffer = bytearray([170] * size)
+            for heading in (65520, 65521, 71, 72, 2**64 - 1):
+                self.tell_written(lambda: start(buffer, heading), 0)
+                self.say_digest(buffer)
+            for length in lengths:
+                self.show(buffer, length)
 
     def ordered(self, numbers):
-        sheet = bytearray([170] * 160)
+        buffer = bytearray([170] * 160)
         heading = b"Plots of the parish\n"
-        sheet[: len(heading)] = heading
-        length = self.written(lambda: start(sheet, len(heading)), 0)
+        buffer[: len(heading)] = heading
+        length = self.tell_written(lambda: start(buffer, len(heading)), 0)
         for number in numbers:
-            length = self.add(sheet, length, number, block(0, 0, number, 1))
-        self.say(sheet[: len(heading)])
-        self.show(sheet, length)
+            length = self.tell_added(buffer, length, number, plot(number))
+        self.say(buffer[: len(heading)])
+        self.show(buffer, length)
+        self.say_fetched(buffer, length, 0, 1, 2)
         end = length
-        while end < len(sheet) and sheet[end] == 170:
+        while end < len(buffer) and buffer[end] == 170:
             end += 1
-        self.say("%d\n" % end)
+        self.say("kept %d\n" % end)
 
     def largest(self):
-        def plot(number):
-            if number % 2 == 0:
-                return block(-16000, 15990, number % 7, number % 5)
-            return diamond(0, -16000, number % 9)
-
         def show_digest():
-            text = listing(sheet, length).encode()
-            digest = 0
-            for byte in text:
-                digest = (digest * 31 + byte) % 2**32
-            self.say("%d %d\n" % (len(text), digest))
+            text = listing(buffer, length).encode()
+            self.say("listing %d\n" % len(text))
+            self.say_digest(text)
 
         # the sheet that 2,730 inserts in any order leave
-        rows = [record(number, *plot(number)) for number in range(1, 2731)]
-        sheet = bytearray(b"".join(rows) + trailer(2730)) + bytearray(64)
+        buffer = bytearray(sheet(b"", *((number, plot(number)) for number in range(1, 2731)))) + bytearray(64)
         length = 65536
+        self.say("length %d\n" % length)
         show_digest()
-        self.add(sheet, length, 2731, plot(2731))
+        self.say_fetched(buffer, length, 0, 1364, 2729, 2730)
+        self.tell_added(buffer, length, 2731, plot(2731))
         show_digest()
-        self.show(sheet, 65537)
+        self.show(buffer, 65537)
 
     def run(self):
-        sheet = bytearray(64)
-        self.show(sheet, self.example(sheet, 0))
-        self.show(sheet, self.written(lambda: start(sheet, 48), 0))
-        for back, byte in ((1, 100), (5, 1), (8, 25), (12, 3), (16, 72), (56, 4), (59, 127), (64, 0), (61, 1)):
-            self.spoilt(back, byte)
-        self.wrong_lengths()
-        self.refused_calls()
-        for numbers in ((3, 5, 8), (8, 5, 3), (5, 8, 3)):
+        self.samples()
+        self.spoilt()
+        self.orders()
+        self.last_number()
+        self.limits()
+        for numbers in ((7, 256, 65537), (65537, 256, 7), (256, 65537, 7)):
             self.ordered(numbers)
         self.largest()
         return self.out
 
 
+def pair(size):
+    """A buffer that starts with a sheet of 64 bytes: a plot up to the east and north edges of the map, and another."""
+    data = sheet(b"", (255, wide(15439, 14702)), (511, plot(511)))
+    return bytearray(data + bytes(size - len(data)))
+
+
+# two bytes of that sheet, each with its index: number at 0 and 24, i at 4 and 28, j at 6 and 30, the sides from 8 and 32 on, distance at
+# 48, count at 52, letters at 60
+TWO_BYTES = (
+    ((8, 43), (16, 33)),
+    ((52, 3), (48, 72)),
+    ((52, 1), (48, 24)),
+    ((60, 0), (48, 0)),
+    ((48, 0), (0, 0)),
+    ((0, 0), (8, 0)),
+    ((8, 0), (5, 127)),
+    ((8, 0), (25, 0)),
+    ((5, 127), (32, 0)),
+)
+
+
+# ---- what the programs read and write
+
+
+SAMPLE = sheet(b"", (7, BLOCK), (11407, DIAMOND), (0x01020304, wide(-300, 515)))
+
+
+def longest(line, *plots):
+    """A sheet of 65,536 bytes with these plots. Its heading is one line again and again, cut at the front."""
+    room = LIMIT - len(sheet(b"", *plots))
+    return sheet((line * (room // len(line) + 1))[-room:], *plots)
+
+
+def two_inputs():
+    """A sheet of 65,536 bytes and a byte, then a sheet of 65,536 bytes; what is written for each."""
+    first = longest(b"A heading of the sheet that one byte follows.\n", *((v, plot(v)) for v in (12, 345, 0x0A0B0C0D))) + b"\n"
+    second = longest(b"A heading of the sheet that nothing follows.\n", *((v, plot(v)) for v in (21, 546, 0x0B0C0D08)))
+    assert (len(first), len(second)) == (65537, 65536)
+    assert listing(first, 65536) != listing(second, 65536) and listing(first, 65536).startswith("plot")
+    return first + second, listing(first, len(first)) + listing(second, len(second))
+
+
 def write():
-    case = Cases()
-    sheet = bytearray(64)
-    length = case.example(sheet, 0)
+    inputs, listings = two_inputs()
     for name, data in (
-        ("crates/listing/stdin", bytes(sheet[:length])),
-        ("crates/listing/stdout", listing(sheet, length).encode()),
+        ("crates/listing/stdin", SAMPLE),
+        ("crates/listing/stdout", listing(SAMPLE, len(SAMPLE)).encode()),
+        ("crates/listing_cases/stdin", inputs),
+        ("crates/listing_cases/stdout", listings.encode()),
         ("crates/sheet_cases/stdout", Cases().run()),
     ):
         with open(name, "wb") as f:
@@ -278,21 +369,30 @@ def write():
 # ---- random sheets
 
 
+def random_sides(rng):
+    """Eight sides that close: mostly all different, at times small ones, of which some are 0 or equal, and at times large ones."""
+    most = rng.choice([4, 40, 200, 200, 200, 900])
+    while True:
+        n = [rng.randrange(most) for _ in range(8)]
+        n[4] = n[0] + n[1] + n[7] - n[3] - n[5]
+        n[6] = n[1] + n[2] + n[3] - n[5] - n[7]
+        if min(n) >= 0:
+            return n
+
+
 def random_outline(rng):
-    """An outline that closes, at times one that does not or that leaves the map."""
-    a, b, c, d = (rng.choice([0, 0, 1, 2, 3, rng.randrange(40)]) for _ in range(4))
-    n = [a, b, c, d, a, b, c, d]
-    if rng.random() < 0.4:
-        for sides in ([0, 2, 5], [0, 3, 6], [1, 4, 6], [2, 4, 7]):
-            if rng.random() < 0.5:
-                for side in sides:
-                    n[side] += 1
+    """An outline that closes and lies on the map, at times up to its edges; at times one that does not."""
+    n = random_sides(rng)
+    places = corners(0, 0, n)
+    starts = []
+    for axis in (0, 1):
+        low, high = -MAP - min(p[axis] for p in places), MAP - max(p[axis] for p in places)
+        starts.append(rng.choice([low, high]) if rng.random() < 0.2 else rng.randint(low, high))
+        if rng.random() < 0.002:
+            starts[axis] = rng.choice([low - 1, high + 1])
     if rng.random() < 0.004:
         n[rng.randrange(8)] += 1
-    reach = MAP + 20 if rng.random() < 0.004 else MAP - 200
-    if reach > MAP:
-        return (reach, 0, n)
-    return (rng.randint(-reach, reach), rng.randint(-reach, reach), n)
+    return (starts[0], starts[1], n)
 
 
 def random_sheet(rng):
@@ -301,29 +401,35 @@ def random_sheet(rng):
     if count > 1 and rng.random() < 0.1:
         numbers[rng.randrange(count - 1)] = rng.choice([0, numbers[-1]])
     body = b"".join(record(v, *random_outline(rng)) for v in numbers)
-    sheet = bytearray(rng.randbytes(rng.randrange(30)) + body + trailer(count))
+    data = bytearray(rng.randbytes(rng.randrange(30)) + body + trailer(count))
     if rng.random() < 0.3:
-        at = max(0, len(sheet) - 1 - rng.randrange(24 + 16))
-        sheet[at] = rng.randrange(256)
+        at = max(0, len(data) - 1 - rng.randrange(24 + 16))
+        data[at] = rng.randrange(256)
     if rng.random() < 0.05:
-        sheet = bytearray(rng.randbytes(LIMIT + 1 - len(sheet) - rng.randrange(3) + 1)) + sheet
+        data = bytearray(rng.randbytes(LIMIT + 1 - len(data) - rng.randrange(3) + 1)) + data
     if rng.random() < 0.05:
-        sheet = sheet[: rng.randrange(20)]
-    return bytes(sheet)
+        data = data[: rng.randrange(20)]
+    return bytes(data)
 
 
 def attempt():
     rng = random.Random(1)
     seen = {}
+    listed, uneven = 0, 0
     for k in range(400):
-        sheet = random_sheet(rng)
-        expected = listing(sheet, len(sheet))
-        given = subprocess.run(["target/bin/listing"], input=sheet, capture_output=True, check=True)
+        data = random_sheet(rng)
+        expected = listing(data, len(data))
+        given = subprocess.run(["target/bin/listing"], input=data, capture_output=True, check=True)
         if (given.stdout, given.stderr) != (expected.encode(), b""):
             sys.exit("sheet %d: expected\n%sbut target/bin/listing wrote\n%s%s" % (k, expected, given.stdout, given.stderr))
         kind = expected.split("\n")[0] if expected.startswith("refused") else "listed"
         seen[kind] = seen.get(kind, 0) + 1
+        if kind == "listed":
+            found = check(data, len(data))
+            listed += len(found)
+            uneven += sum(len(set(r[3])) == 8 for r in found)
     print("400 sheets agree:", ", ".join("%s %d" % item for item in sorted(seen.items())))
+    print("%d plots listed, %d of them with eight different sides" % (listed, uneven))
 
 
 if __name__ == "__main__":

@@ -1,9 +1,11 @@
 // Inserts in some order keep the heading, and the bytes past the sheet.
-use crate::making::add;
-use crate::making::block;
-use crate::making::show;
-use crate::making::written;
-use libc::STDOUT_FILENO;
+use crate::making::tell_added;
+use crate::making::tell_written;
+use crate::plots::plot;
+use crate::words::say;
+use crate::words::say_fetched;
+use crate::words::say_line;
+use crate::words::show;
 
 // A byte that no sheet here has after its heading.
 const PAST: u8 = 170;
@@ -34,22 +36,35 @@ fn kept(sheet: &[u8], from: usize) -> usize {
 }
 
 // Writes the first bytes of a sheet.
-fn say(sheet: &[u8], count: usize) {
+fn say_first(sheet: &[u8], count: usize) {
     if count <= sheet.len() {
-        io::write_all(STDOUT_FILENO, &sheet[0..count]);
+        say(&sheet[0..count]);
     }
 }
 
-// Writes the heading, the listing and how far the bytes past the sheet are kept, after three inserts in this order.
+// Writes each record of a sheet of three.
+fn say_three(sheet: &[u8], len: usize) {
+    say_fetched(sheet, len, 0);
+    say_fetched(sheet, len, 1);
+    say_fetched(sheet, len, 2);
+}
+
+// Inserts three plots in this order, and answers the length.
+fn insert_three(sheet: &mut [u8], empty: usize, a: u32, b: u32, c: u32) -> usize {
+    let one = tell_added(sheet, empty, a, plot(a));
+    let two = tell_added(sheet, one, b, plot(b));
+    tell_added(sheet, two, c, plot(c))
+}
+
+// Writes the lengths, the heading, the listing, the records and how far the bytes past the sheet are kept, after three inserts in this
+// order.
 pub fn ordered(a: u32, b: u32, c: u32) {
     let mut sheet = [PAST; 160];
     let heading = put(&mut sheet, b"Plots of the parish\n");
-    let empty = written(sheet::start(&mut sheet, heading), 0);
-    let one = add(&mut sheet, empty, a, block(0, 0, a, 1));
-    let two = add(&mut sheet, one, b, block(0, 0, b, 1));
-    let len = add(&mut sheet, two, c, block(0, 0, c, 1));
-    say(&sheet, heading);
+    let empty = tell_written(sheet::start(&mut sheet, heading), 0);
+    let len = insert_three(&mut sheet, empty, a, b, c);
+    say_first(&sheet, heading);
     show(&sheet, len);
-    io::print_decimal(STDOUT_FILENO, kept(&sheet, len) as u64);
-    io::write_all(STDOUT_FILENO, b"\n");
+    say_three(&sheet, len);
+    say_line(b"kept", kept(&sheet, len) as u64);
 }

@@ -4,7 +4,7 @@
 ghost use mathlib.Core.Path.{_≡_};
 ghost use Prim.Native.Nat.{_≤_};
 ghost use lib.ListN.{length};
-ghost use Rattle.listing.specs.Transfers.{«bytes-moved», told};
+ghost use Rattle.listing_io.specs.Transfers.{«bytes-moved», told};
 
 // What a call did: it moved so many bytes; a signal interrupted it before it moved one; or it failed.
 pub enum Transfer {

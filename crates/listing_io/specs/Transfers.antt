@@ -2,10 +2,10 @@
 use mathlib.Core.Bool.{Bool, true, false}
 use Prim.Native.Nat.{ℕ, min}
 use lib.IntN.{ℤ, pos, negsuc}
-use Rattle.listing.specs.declared.input.Input.{Input}
-use Rattle.listing.specs.declared.input.Input.the-variants as input
-use Rattle.listing.specs.declared.transfer.Transfer.{Transfer}
-use Rattle.listing.specs.declared.transfer.Transfer.the-variants as transfer
+use Rattle.listing_io.specs.declared.input.Input.{Input}
+use Rattle.listing_io.specs.declared.input.Input.the-variants as input
+use Rattle.listing_io.specs.declared.transfer.Transfer.{Transfer}
+use Rattle.listing_io.specs.declared.transfer.Transfer.the-variants as transfer
 
 -- what a call on so many bytes did, by its answer and whether a signal interrupted it: a negative answer is no count
 abbrev pub told : ℤ → Bool → ℕ → Transfer

@@ -3,14 +3,14 @@ use Prim.Native.Nat.{_≤_, _<_, _-_}
 use native.Mathlib.Omega.{arith}
 use lib.ListN.{length}
 use borrow.Author.Needs.{needs}
-use Rattle.sheet_cases.proofs.large.digest.Statement.{statement}
-use Rattle.sheet_cases.proofs.large.digest.Tie as tie
+use Rattle.sheet_cases.proofs.words.digest.Statement.{statement}
+use Rattle.sheet_cases.proofs.words.digest.Tie as tie
 
 abbrev Inv-loop : tie.InvT-loop
-Inv-loop text sum₀ i₀ sum i = (i ≤ length text) × (sum < 4294967296)
+Inv-loop bytes sum₀ i₀ sum i = (i ≤ length bytes) × (sum < 4294967296)
 
 abbrev μ-loop : tie.MeasureT-loop
-μ-loop text sum₀ i₀ sum i = length text - i
+μ-loop bytes sum₀ i₀ sum i = length bytes - i
 
 pub digest-spec : {M : Type 1} → statement M
 digest-spec =

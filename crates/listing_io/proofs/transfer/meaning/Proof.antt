@@ -10,10 +10,10 @@ use mir.Facts.{toZ-ofZ}
 use borrow.Author.Needs.{needs}
 use borrow.Author.Tests.{le-leb}
 use Rattle.io.specs.Counts.{clamped}
-use Rattle.listing.specs.declared.transfer.Transfer.the-variants.{Bytes, Interrupted, Failed}
-use Rattle.listing.specs.Transfers.{told}
-use Rattle.listing.proofs.transfer.meaning.Statement.{statement}
-use Rattle.listing.proofs.transfer.meaning.Tie as tie
+use Rattle.listing_io.specs.declared.transfer.Transfer.the-variants.{Bytes, Interrupted, Failed}
+use Rattle.listing_io.specs.Transfers.{told}
+use Rattle.listing_io.proofs.transfer.meaning.Statement.{statement}
+use Rattle.listing_io.proofs.transfer.meaning.Tie as tie
 
 -- the answer is read back as it was
 sign : {a : ℤ} {t : Bool} → SFits w64 a → leZ (pos 0) (toZ w64 (ofZ w64 a)) ≡ t → leZ (pos 0) a ≡ t

@@ -1,2 +1,0 @@
--- What the contracts of the program cite: how many bytes a call moved.
-pub mod Transfers

@@ -1,0 +1,2 @@
+-- Computed cases of what the contracts cite.
+pub mod Examples
