@@ -1,4 +1,5 @@
-/* The library from C: cases of document 01, as `build.sh` compares them with expected.txt. */
+/* The library from C: cases of document 01, and a plot and a frame whose numbers all differ, as `build.sh` compares them with
+ * expected.txt. */
 #include "koxirmeta.h"
 #include <stdio.h>
 #include <string.h>
@@ -11,6 +12,9 @@ static const uint32_t K13[8] = {0, 1, 0, 1, 0, 1, 0, 1};
 static const uint32_t BLOCK[8] = {2, 0, 1, 0, 2, 0, 1, 0};
 static const uint32_t SQUARE[8] = {2, 0, 2, 0, 2, 0, 2, 0};
 static const uint32_t FIELD[8] = {3, 0, 1, 0, 3, 0, 1, 0};
+static const int32_t UNEVEN_START[2] = {-4, -5};
+static const uint32_t UNEVEN_SIDES[8] = {3, 1, 14, 2, 5, 4, 6, 7};
+static const int32_t FRAME[8] = {-4, -1, 5, 11, 7, 4, -2, -7};
 
 typedef uint32_t call(const int32_t *, size_t, const int32_t *, size_t, int32_t *, size_t);
 
@@ -91,6 +95,27 @@ static void octagons(void) {
     printf("seven bounds: %u\n", kx_normalise(ORIGIN, 7, spread, 8));
 }
 
+/* A plot and a frame whose numbers all differ. */
+static void uneven(void) {
+    static const int32_t slack[8] = {5, 4, 0, 10, 40, 27, 11, 20};
+    int32_t plot[8] = {0}, out[8] = {0};
+    double place[2] = {0, 0};
+    kx_to_octagon(UNEVEN_START, 2, UNEVEN_SIDES, 8, plot, 8);
+    show_bounds("uneven plot", plot);
+    show_bounds("slack bounds that differ", slack);
+    show("its outline", KX_ACCEPTED, plot);
+    show_call("spread by the frame", kx_dilate, plot, FRAME);
+    show_call("trimmed by the frame", kx_erode, plot, FRAME);
+    show_call("opened by the frame", kx_opening, plot, FRAME);
+    show_call("closed by the frame", kx_closing, plot, FRAME);
+    show("spread twice by the frame", kx_dilate_n(plot, 8, FRAME, 8, 2, out, 8), out);
+    show("trimmed twice by the frame", kx_erode_n(plot, 8, FRAME, 8, 2, out, 8), out);
+    show_call("the frame trimmed by the plot", kx_erode, FRAME, plot);
+    for (uint32_t k = 0; k < KX_SIDES; k++)
+        if (kx_vertex_place(plot, 8, k, place, 2) == KX_ACCEPTED)
+            printf("corner %u: %.2f east %.2f north\n", k, place[0], place[1]);
+}
+
 /* Writes a split, or its refusal. */
 static void show_split(const char *what, const int32_t bounds[8]) {
     int32_t start[KX_START] = {0};
@@ -112,6 +137,8 @@ static void splits(void) {
     show_split("split of sides 0 2 0 2 0 2 0 2", bounds);
     octagon_at(0, 0, skew, bounds);
     show_split("split of sides 3 0 1 1 0 2 0 0", bounds);
+    octagon_at(-4, -5, UNEVEN_SIDES, bounds);
+    show_split("split of the uneven plot", bounds);
     show_split("split of crossed bounds", CROSSED);
 }
 
@@ -123,30 +150,47 @@ static void listing(const uint8_t *sheet, size_t room, size_t len) {
         fwrite(text, 1, written, stdout);
 }
 
+/* Writes a record, or the number of a refusal. */
+static void show_record(const char *what, uint32_t answer, uint32_t number, const int32_t start[2], const uint32_t n[8]) {
+    printf("%s: %u", what, answer);
+    if (answer == KX_ACCEPTED)
+        printf(" number %u start %d %d sides %u %u %u %u %u %u %u %u", number, start[0], start[1], n[0], n[1], n[2], n[3], n[4], n[5], n[6], n[7]);
+    printf("\n");
+}
+
+static void fetch(const char *what, const uint8_t *sheet, size_t room, size_t len, uint32_t k) {
+    uint32_t number = 0, n[8] = {0};
+    int32_t start[2] = {0, 0};
+    uint32_t answer = kx_sheet_fetch(sheet, room, len, k, &number, start, 2, n, 8);
+    show_record(what, answer, number, start, n);
+}
+
 static void sheets(void) {
-    uint8_t sheet[72] = {'p', 'l', 'o', 't', 's'};
+    uint8_t sheet[96] = {'p', 'l', 'o', 't', 's'};
     size_t len = 0;
     const int32_t zero[2] = {0, 0}, start[2] = {2, -1};
-    uint32_t number = 0, n[8] = {0};
+    uint32_t number = 0, n[8] = {0}, answer;
     int32_t at[2] = {0, 0};
-    printf("start: %u", kx_sheet_start(sheet, 72, 5, &len));
+    printf("start: %u", kx_sheet_start(sheet, 96, 5, &len));
     printf(" length %zu\n", len);
-    printf("insert 11407: %u", kx_sheet_insert(sheet, 72, len, 11407, zero, 2, K13, 8, &len));
+    printf("insert 11407: %u", kx_sheet_insert(sheet, 96, len, 11407, zero, 2, K13, 8, &len));
     printf(" length %zu\n", len);
-    printf("insert 7: %u", kx_sheet_insert(sheet, 72, len, 7, start, 2, FIELD, 8, &len));
+    printf("insert 70001: %u", kx_sheet_insert(sheet, 96, len, 70001, UNEVEN_START, 2, UNEVEN_SIDES, 8, &len));
     printf(" length %zu\n", len);
-    printf("insert 7 again: %u\n", kx_sheet_insert(sheet, 72, len, 7, start, 2, FIELD, 8, &len));
-    printf("insert 8, no room: %u\n", kx_sheet_insert(sheet, 72, len, 8, start, 2, FIELD, 8, &len));
-    printf("check: %u", kx_sheet_check(sheet, 72, len, &number));
+    printf("insert 7: %u", kx_sheet_insert(sheet, 96, len, 7, start, 2, FIELD, 8, &len));
+    printf(" length %zu\n", len);
+    printf("insert 7 again: %u\n", kx_sheet_insert(sheet, 96, len, 7, start, 2, FIELD, 8, &len));
+    printf("insert 8, no room: %u\n", kx_sheet_insert(sheet, 96, len, 8, start, 2, FIELD, 8, &len));
+    printf("check: %u", kx_sheet_check(sheet, 96, len, &number));
     printf(" count %u\n", number);
-    listing(sheet, 72, len);
-    printf("record 1: %u", kx_sheet_fetch(sheet, 72, len, 1, &number, at, 2, n, 8));
-    printf(" number %u\n", number);
-    printf("record 2: %u\n", kx_sheet_fetch(sheet, 72, len, 2, &number, at, 2, n, 8));
-    printf("record 0 of 2: %u", kx_sheet_read(sheet, 72, len, 2, 0, &number, at, 2, n, 8));
-    printf(" number %u start %d %d\n", number, at[0], at[1]);
+    listing(sheet, 96, len);
+    fetch("record 1", sheet, 96, len, 1);
+    fetch("record 2", sheet, 96, len, 2);
+    fetch("record 3", sheet, 96, len, 3);
+    answer = kx_sheet_read(sheet, 96, len, 3, 0, &number, at, 2, n, 8);
+    show_record("record 0 of 3", answer, number, at, n);
     sheet[len - 1] = 'E';
-    listing(sheet, 72, len);
+    listing(sheet, 96, len);
 }
 
 /* The constants: what is answered at a limit, and one past it. */
@@ -174,6 +218,7 @@ static void limits(void) {
 
 int main(void) {
     octagons();
+    uneven();
     splits();
     sheets();
     limits();

@@ -12,6 +12,8 @@ const K13: Sides = [0, 1, 0, 1, 0, 1, 0, 1];
 const BLOCK: Sides = [2, 0, 1, 0, 2, 0, 1, 0];
 const SQUARE: Sides = [2, 0, 2, 0, 2, 0, 2, 0];
 const FIELD: Sides = [3, 0, 1, 0, 3, 0, 1, 0];
+const UNEVEN: Plot = Plot { number: 70001, start: [-4, -5], sides: [3, 1, 14, 2, 5, 4, 6, 7] };
+const FRAME: Bounds = [-4, -1, 5, 11, 7, 4, -2, -7];
 
 fn octagon_at(i: i32, j: i32, sides: &Sides) -> Bounds {
     kx::to_octagon(&[i, j], sides).unwrap()
@@ -74,6 +76,25 @@ fn octagons() {
     println!("seven bounds: {}", number(&kx::normalise(&ORIGIN[..7])));
 }
 
+/// A plot and a frame whose numbers all differ.
+fn uneven() {
+    let plot = kx::to_octagon(&UNEVEN.start, &UNEVEN.sides).unwrap();
+    show_bounds("uneven plot", &plot);
+    show_bounds("slack bounds that differ", &[5, 4, 0, 10, 40, 27, 11, 20]);
+    show("its outline", Ok(plot));
+    show("spread by the frame", kx::dilate(&plot, &FRAME));
+    show("trimmed by the frame", kx::erode(&plot, &FRAME));
+    show("opened by the frame", kx::opening(&plot, &FRAME));
+    show("closed by the frame", kx::closing(&plot, &FRAME));
+    show("spread twice by the frame", kx::dilate_n(&plot, &FRAME, 2));
+    show("trimmed twice by the frame", kx::erode_n(&plot, &FRAME, 2));
+    show("the frame trimmed by the plot", kx::erode(&FRAME, &plot));
+    for k in 0..8 {
+        let [east, north] = kx::vertex_place(&plot, k).unwrap();
+        println!("corner {k}: {east:.2} east {north:.2} north");
+    }
+}
+
 fn show_split(what: &str, bounds: &Bounds) {
     match kx::decompose(bounds) {
         Err(why) => refused(what, why),
@@ -84,6 +105,7 @@ fn show_split(what: &str, bounds: &Bounds) {
 fn splits() {
     show_split("split of sides 0 2 0 2 0 2 0 2", &octagon_at(0, 0, &[0, 2, 0, 2, 0, 2, 0, 2]));
     show_split("split of sides 3 0 1 1 0 2 0 0", &octagon_at(0, 0, &[3, 0, 1, 1, 0, 2, 0, 0]));
+    show_split("split of the uneven plot", &kx::to_octagon(&UNEVEN.start, &UNEVEN.sides).unwrap());
     show_split("split of crossed bounds", &CROSSED);
 }
 
@@ -93,24 +115,33 @@ fn listing(sheet: &[u8], len: usize) {
     print!("{}", String::from_utf8_lossy(listed));
 }
 
+fn show_record(what: &str, answer: Result<Plot, Refusal>) {
+    match answer {
+        Err(why) => println!("{what}: {}", why.number()),
+        Ok(p) => println!("{what}: 0 number {} start {} sides {}", p.number, words(&p.start), words(&p.sides)),
+    }
+}
+
 fn sheets() {
-    let mut sheet = [0u8; 72];
+    let mut sheet = [0u8; 96];
     sheet[..5].copy_from_slice(b"plots");
     let (k13, field) = (Plot { number: 11407, start: [0, 0], sides: K13 }, Plot { number: 7, start: [2, -1], sides: FIELD });
     let len = kx::sheet_start(&mut sheet, 5).unwrap();
     println!("start: 0 length {len}");
     let len = kx::sheet_insert(&mut sheet, len, &k13).unwrap();
     println!("insert 11407: 0 length {len}");
+    let len = kx::sheet_insert(&mut sheet, len, &UNEVEN).unwrap();
+    println!("insert 70001: 0 length {len}");
     let len = kx::sheet_insert(&mut sheet, len, &field).unwrap();
     println!("insert 7: 0 length {len}");
     println!("insert 7 again: {}", number(&kx::sheet_insert(&mut sheet, len, &field)));
     println!("insert 8, no room: {}", number(&kx::sheet_insert(&mut sheet, len, &Plot { number: 8, ..field })));
     println!("check: 0 count {}", kx::sheet_check(&sheet, len).unwrap());
     listing(&sheet, len);
-    println!("record 1: 0 number {}", kx::sheet_fetch(&sheet, len, 1).unwrap().number);
-    println!("record 2: {}", number(&kx::sheet_fetch(&sheet, len, 2)));
-    let first = kx::sheet_read(&sheet, len, 2, 0).unwrap();
-    println!("record 0 of 2: 0 number {} start {}", first.number, words(&first.start));
+    show_record("record 1", kx::sheet_fetch(&sheet, len, 1));
+    show_record("record 2", kx::sheet_fetch(&sheet, len, 2));
+    show_record("record 3", kx::sheet_fetch(&sheet, len, 3));
+    show_record("record 0 of 3", kx::sheet_read(&sheet, len, 3, 0));
     sheet[len - 1] = b'E';
     listing(&sheet, len);
 }
@@ -147,6 +178,7 @@ fn refusals() {
 
 fn main() {
     octagons();
+    uneven();
     splits();
     sheets();
     limits();

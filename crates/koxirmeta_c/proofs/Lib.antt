@@ -1,3 +1,5 @@
 -- What the proofs of several functions use.
 pub mod Stores
 pub mod Fitting
+pub mod Examples
+pub mod SheetExamples

@@ -1,0 +1,29 @@
+// Operands and memory whose numbers differ, so that none can stand in another's place unseen.
+const OCTAGONS: [[i32; 8]; 13] = [
+    // the plot from (-4, -5) with the sides 3 1 14 2 5 4 6 7, and a frame of 10 cells
+    [5, 4, 0, 10, 12, 19, 11, 9],
+    [-4, -1, 5, 11, 7, 4, -2, -7],
+    // two slack bounds; bounds that hold no cell
+    [5, 4, 0, 10, 40, 27, 11, 20],
+    [6, 2, 7, 5, 8, -2, 9, -5],
+    // the cells (16001, -3), off the map, (15999, -7) and (-2, 5)
+    [3, 16004, 16001, 15998, -3, -16004, -16001, -15998],
+    [7, 16006, 15999, 15992, -7, -16006, -15999, -15992],
+    [-5, -7, -2, 3, 5, 7, 2, -3],
+    // the cells (2, 3), (3, 4) and (4, 5), and the cells (1, 7) and (2, 6): opposed diagonal rows
+    [-3, -1, 4, 9, 5, 1, -2, -5],
+    [-6, -4, 2, 8, 7, 6, -1, -8],
+    // the plot turned by one, two and three quarters; a diamond
+    [11, 9, 5, 4, 0, 10, 12, 19],
+    [12, 19, 11, 9, 5, 4, 0, 10],
+    [0, 10, 12, 19, 11, 9, 5, 4],
+    [-1, -7, -3, 1, 6, 11, 8, 5],
+];
+
+pub fn octagon(k: usize) -> [i32; 8] {
+    OCTAGONS[k % 13]
+}
+
+// A buffer whose bytes all differ.
+pub const BUFFER: [u8; 95] =
+    *b" !\"#$%&'()*+,-./0123456789:;<=>?@ABCDEFGHIJKLMNOPQRSTUVWXYZ[\\]^_`abcdefghijklmnopqrstuvwxyz{|}~";

@@ -1,0 +1,2 @@
+-- What is computed of the listing in lent memory.
+pub mod Examples

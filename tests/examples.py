@@ -1,0 +1,149 @@
+#!/usr/bin/env python3
+"""Works out what the examples of bindings/ write, on its own: python3 tests/examples.py > bindings/expected.txt
+
+It shares with the examples in C and Rust their operands and the words of a line. What the calls answer is worked out by cells.py and
+sheets.py.
+"""
+import sheets
+from cells import PAIRED, PIECES, WRONG_LENGTH, corner, inside, outline, some, split, tightest
+from sheets import Refused
+
+
+def words(values):
+    return " ".join(map(str, values))
+
+
+def number(work):
+    """The number that a call answers."""
+    try:
+        work()
+    except Refused as refusal:
+        return refusal.args[0]
+    return 0
+
+
+def answered(what, work, form):
+    """A line with a result in some form, or with a refusal."""
+    try:
+        result = work()
+    except Refused as refusal:
+        return "%s: refused %d\n" % (what, refusal.args[0])
+    return "%s: %s\n" % (what, form(result))
+
+
+def drawn(what, work):
+    return answered(what, work, lambda cells: "start %s sides %s cells %d" % (*map(words, outline(cells)), len(cells)))
+
+
+def bounded(what, bounds):
+    return answered(what, lambda: some(bounds), lambda cells: "%s cells %d" % (words(tightest(cells)), len(cells)))
+
+
+def parted(what, bounds):
+    return answered(what, lambda: split(bounds), lambda parts: "start %s counts %s" % tuple(map(words, parts)))
+
+
+def paired(what, name, p, f, n=1):
+    return drawn(what, lambda: PAIRED[name](p, f, n))
+
+
+def located(what, bounds, k):
+    return answered(what, lambda: corner(bounds, k), lambda place: "%.2f east %.2f north" % tuple(place))
+
+
+def octagon(i, j, sides):
+    return tightest(inside((i, j), sides))
+
+
+ORIGIN, CROSSED = [0] * 8, [5, 0, 5, 1, 5, 0, 5, -1]
+START, SIDES = (-4, -5), [3, 1, 14, 2, 5, 4, 6, 7]
+UNEVEN, FRAME = octagon(*START, SIDES), [-4, -1, 5, 11, 7, 4, -2, -7]
+
+
+def octagons():
+    k2, k4, k13 = (octagon(0, 0, PIECES[k - 1]) for k in (2, 4, 13))
+    block, square, row = octagon(0, 0, [2, 0, 1, 0] * 2), octagon(0, 0, [2, 0] * 4), octagon(0, 0, [2, 0, 0, 0] * 2)
+    yield bounded("all bounds 0", ORIGIN) + bounded("slack bounds", [0, 0, 9, 1, 2, 9, 0, 0]) + bounded("crossed bounds", CROSSED)
+    yield drawn("n0=1 alone", lambda: inside((0, 0), [1, 0, 0, 0, 0, 0, 0, 0]))
+    yield paired("block spread by K13", "dilate", block, k13)
+    spread = tightest(PAIRED["dilate"](block, k13, 1))
+    yield paired("that trimmed by K13", "erode", spread, k13) + paired("block closed by K13", "closing", block, k13)
+    yield located("corner 2 of the spread", spread, 2) + located("corner 8", spread, 8)
+    yield paired("block trimmed by 3 by 3", "erode", block, square)
+    yield paired("K2 spread by K4", "dilate", k2, k4) + paired("K13 opened by K4", "opening", k13, k4)
+    west, east, one = (tightest({cell}) for cell in ((-16000, 0), (16000, 0), (1, 0)))
+    yield paired("(-16000,0) trimmed by (1,0)", "erode", west, one)
+    yield paired("(16000,0) spread by (0,0)", "dilate", east, ORIGIN) + paired("(16000,0) spread by (1,0)", "dilate", east, one)
+    for n in 65535, 65536:
+        yield paired("origin spread %d times" % n, "dilate_n", ORIGIN, ORIGIN, n)
+    yield paired("block trimmed twice by 3 by 1", "erode_n", block, row, 2)
+    yield "seven bounds: %d\n" % WRONG_LENGTH
+
+
+def uneven():
+    """A plot and a frame whose numbers all differ."""
+    yield bounded("uneven plot", UNEVEN) + bounded("slack bounds that differ", [5, 4, 0, 10, 40, 27, 11, 20])
+    yield drawn("its outline", lambda: inside(START, SIDES))
+    for what, name in ("spread", "dilate"), ("trimmed", "erode"), ("opened", "opening"), ("closed", "closing"):
+        yield paired("%s by the frame" % what, name, UNEVEN, FRAME)
+    yield paired("spread twice by the frame", "dilate_n", UNEVEN, FRAME, 2)
+    yield paired("trimmed twice by the frame", "erode_n", UNEVEN, FRAME, 2)
+    yield paired("the frame trimmed by the plot", "erode", FRAME, UNEVEN)
+    for k in range(8):
+        yield located("corner %d" % k, UNEVEN, k)
+
+
+def splits():
+    for sides in [0, 2] * 4, [3, 0, 1, 1, 0, 2, 0, 0]:
+        yield parted("split of sides %s" % words(sides), octagon(0, 0, sides))
+    yield parted("split of the uneven plot", UNEVEN) + parted("split of crossed bounds", CROSSED)
+
+
+def record(what, found):
+    return "%s: 0 number %d start %d %d sides %s\n" % (what, *found[:3], words(found[3]))
+
+
+def on_sheets():
+    sheet = bytearray(b"plots".ljust(96, b"\0"))
+    field = (2, -1, [3, 0, 1, 0] * 2)
+    length = sheets.start(sheet, 5)
+    yield "start: 0 length %d\n" % length
+    for plot, place in (11407, (0, 0, PIECES[12])), (70001, (*START, SIDES)), (7, field):
+        length = sheets.insert(sheet, length, plot, *place)
+        yield "insert %d: 0 length %d\n" % (plot, length)
+    yield "insert 7 again: %d\n" % number(lambda: sheets.insert(sheet, length, 7, *field))
+    yield "insert 8, no room: %d\n" % number(lambda: sheets.insert(sheet, length, 8, *field))
+    yield "check: 0 count %d\n" % len(sheets.check(sheet, length)) + sheets.listing(sheet, length)
+    yield record("record 1", sheets.fetch(sheet, length, 1)) + record("record 2", sheets.fetch(sheet, length, 2))
+    yield "record 3: %d\n" % number(lambda: sheets.fetch(sheet, length, 3))
+    yield record("record 0 of 3", sheets.fetch(sheet, length, 0))
+    sheet[length - 1] = ord("E")
+    yield sheets.listing(sheet, length)
+
+
+def limits():
+    """What is answered at a limit, and one past it."""
+
+    def cell(x):
+        return number(lambda: inside((x, 0), [0] * 8))
+
+    def fold(n):
+        return number(lambda: PAIRED["dilate_n"](ORIGIN, ORIGIN, n))
+
+    yield "map limit 16000: %d, one more: %d\n" % (cell(16000), cell(16001))
+    yield "fold limit 65535: %d, one more: %d\n" % (fold(65535), fold(65536))
+    sheet = bytearray(65536)
+    full = sheets.start(sheet, 65520)
+    yield "sheet limit 65536: 0, one more: %d, length %d\n" % (number(lambda: sheets.start(sheet, 65521)), full)
+    length = sheets.start(sheet, 0)
+    checks = [number(lambda: sheets.check(sheet, n)) for n in (16, 15)]
+    yield "trailer %d: %d, one less: %d\n" % (length, *checks)
+    two = sheet[:40]
+    grown = sheets.insert(two, length, 1, 0, 0, [0] * 8)
+    three = two + bytes(23)
+    yield "record 24: 0, one less: %d, length %d\n" % (number(lambda: sheets.insert(three, grown, 2, 0, 0, [0] * 8)), grown)
+
+
+if __name__ == "__main__":
+    for part in octagons, uneven, splits, on_sheets, limits:
+        print("".join(part()), end="")

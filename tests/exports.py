@@ -1,0 +1,152 @@
+#!/usr/bin/env python3
+"""Works out what crates/export_cases writes, on its own: python3 tests/exports.py > crates/export_cases/stdout
+
+It shares with the program its operands and the form of a line: the name of a call, the number that it answers, and the memory that it
+was lent, as it is afterwards. What the calls answer is worked out by cells.py and sheets.py.
+"""
+import struct
+
+import sheets
+from cells import PAIRED, WRONG_LENGTH, corner, inside, outline, some, split, tightest
+from sheets import Refused
+
+PLOT = [5, 4, 0, 10, 12, 19, 11, 9]
+OCTAGONS = [PLOT, [-4, -1, 5, 11, 7, 4, -2, -7], [5, 4, 0, 10, 40, 27, 11, 20], [6, 2, 7, 5, 8, -2, 9, -5]]
+OCTAGONS += [tightest({cell}) for cell in ((16001, -3), (15999, -7), (-2, 5))]
+OCTAGONS += [tightest({(2, 3), (3, 4), (4, 5)}), tightest({(1, 7), (2, 6)})]
+OCTAGONS += [PLOT[-k:] + PLOT[:-k] for k in (2, 4, 6)] + [tightest(inside((-6, 1), [0, 3, 0, 2, 0, 3, 0, 2]))]
+FRAMES = [1, 0, 1, 4, 3, 6, 5, 8, 7, 1, 1, 1, 8]
+FOLDS = [2, 0, 65536, 1, 1, 3, 1, 1, 1, 1, 1, 1, 1]
+CALLS = {**PAIRED, "normalise": lambda plot, frame, n: some(plot)}
+TEXT = 252 * ((65536 - 16) // 24 + 2)
+
+
+def called(fits, work, *lent):
+    """The number that a call answers. An accepted one leaves its results in the lists that it was lent, any other what was there."""
+    if not fits:
+        return WRONG_LENGTH
+    try:
+        results = work()
+    except Refused as refusal:
+        return refusal.args[0]
+    for one, result in zip(lent, results):
+        one[:] = result
+    return 0
+
+
+def line(name, number, *lent):
+    return "\n%-12s %d:%s" % (name, number, "".join(" %s" % value for one in lent for value in one))
+
+
+def from_number(first, count):
+    return list(range(first, first + count))
+
+
+# ---- octagons
+
+
+def operate(plot, frame, n):
+    for name, operation in CALLS.items():
+        out = from_number(101, 8)
+        yield line(name, called(len(plot) == 8, lambda: [tightest(operation(plot, frame, n))], out), out)
+
+
+def count(plot):
+    cells = [101]
+    return line("count", called(len(plot) == 8, lambda: [[len(some(plot))]], cells), cells)
+
+
+def to_outline(plot, start, sides):
+    return line("to_outline", called(len(sides) == 8, lambda: outline(some(plot)), start, sides), start, sides)
+
+
+def decompose(plot, start, counts):
+    return line("decompose", called(len(counts) == 13, lambda: split(plot), start, counts), start, counts)
+
+
+def to_octagon(start, sides, out):
+    return line("to_octagon", called(len(start) == 2, lambda: [tightest(inside(start, sides))], out), out)
+
+
+def vertex_place(plot, k, place):
+    number = called(len(place) == 2, lambda: [corner(plot, k)], place)
+    return line("vertex_place", number, [struct.pack(">d", metres).hex() for metres in place])
+
+
+def octagons():
+    for k, plot in enumerate(OCTAGONS):
+        yield from operate(plot, OCTAGONS[FRAMES[k]], FOLDS[k])
+        start, sides, out = [101, 102], from_number(201, 8), from_number(301, 8)
+        yield to_outline(plot, start, sides)
+        yield to_octagon(start, sides, out) + to_octagon(plot, sides, out)
+        yield decompose(plot, start, sides)
+        start, counts = [101, 102], [201] * 13
+        yield count(plot)
+        yield decompose(plot, start, counts) + to_outline(plot, start, counts)
+        yield vertex_place(plot, k % 9, [0.5, -0.75]) + vertex_place(plot, k % 9, [0.5, -0.75, 1.25])
+    yield from operate(PLOT[:7], OCTAGONS[1], 1)
+    yield count(PLOT[:7])
+
+
+# ---- sheets
+
+
+def sheet_start(buffer, heading):
+    length = [101]
+    return line("sheet_start", called(True, lambda: [[sheets.start(buffer, heading)]], length), length, [buffer.hex()])
+
+
+def sheet_insert(buffer, length, plot, start, sides):
+    grown = [101]
+    answer = called(len(sides) == 8, lambda: [[sheets.insert(buffer, length, plot, *start, sides)]], grown)
+    return line("sheet_insert", answer, grown, [buffer.hex()])
+
+
+def sheet_check(buffer, length):
+    records = [101]
+    return line("sheet_check", called(True, lambda: [[len(sheets.check(buffer, length))]], records), records)
+
+
+def sheet_fetch(buffer, k, start, sides):
+    def work():
+        plot, i, j, n, _ = sheets.fetch(buffer, 91, k)
+        return [plot], [i, j], n
+
+    plot = [101]
+    return line("sheet_fetch", called(len(start) == 2, work, plot, start, sides), plot, start, sides)
+
+
+def sheet_read(buffer, k, start, sides):
+    """A record of a sheet of 91 bytes in which 3 records were counted, by its place before the trailer."""
+
+    def work():
+        if k >= 3:
+            raise Refused(13)
+        plot, i, j, *n = struct.unpack_from("<Ihh8H", buffer, 91 - 16 - 24 * (3 - k))
+        return [plot], [i, j], n
+
+    plot = [101]
+    return line("sheet_read", called(len(start) == 2, work, plot, start, sides), plot, start, sides)
+
+
+def on_sheets():
+    buffer = bytearray(range(32, 127))
+    yield sheet_start(buffer, 80) + sheet_start(buffer, 3)
+    start, sides = [-4, -5], [3, 1, 14, 2, 5, 4, 6, 7]
+    yield sheet_insert(buffer, 19, 70001, start, sides)
+    yield sheet_insert(buffer, 43, 513, [-1000, 2000], [303, 1, 714, 2, 305, 4, 706, 7])
+    yield sheet_insert(buffer, 67, 16909060, [-8, -11], [6, 7, 3, 1, 14, 2, 5, 4])
+    for lengths in sides, [4] + sides[1:], sides[:7]:
+        yield sheet_insert(buffer, 91, 9, start, lengths)
+    for k in range(4):
+        start, sides = [201, 202], from_number(301, 8)
+        yield sheet_fetch(buffer, k, start, sides) + sheet_read(buffer, k, start, sides)
+    start, sides = [201], from_number(301, 8)
+    yield sheet_fetch(buffer, 1, start, sides) + sheet_read(buffer, 1, start, sides)
+    yield sheet_check(buffer, 91) + sheet_check(buffer, 92)
+    text = sheets.listing(buffer, 91)
+    yield line("list", 0, [len(text), TEXT]) + "\n" + text
+
+
+if __name__ == "__main__":
+    print("".join(octagons()) + "".join(on_sheets()), end="")
