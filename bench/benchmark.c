@@ -6,9 +6,10 @@
 #include <stdlib.h>
 #include <time.h>
 
-enum { INPUTS = 512, TURNS = 4000, RECORDS = 2730, SHEET = 65536, SHEET_TURNS = 400 };
+enum { INPUTS = 512, TURNS = 4000, RECORDS = 2730, SHEET = 65536, SHEET_TURNS = 400, POINTS = 1000 };
 
 static int32_t plots[INPUTS][8], elements[INPUTS][8];
+static double tape[2 * POINTS];
 static uint8_t sheet[SHEET], text[KX_TEXT];
 static size_t sheet_len;
 static volatile uint32_t sink;
@@ -36,6 +37,12 @@ static void bounds(int32_t c[8], int32_t size) {
     c[from(0, 7)] += from(0, 5);
 }
 
+/* Points of the map, with many bits of fraction. */
+static void fill_tape(void) {
+    for (int i = 0; i < 2 * POINTS; i++)
+        tape[i] = from(-1000000000, 1000000000) * 4e-6;
+}
+
 static void fill_sheet(void) {
     if (kx_sheet_start(sheet, SHEET, 0, &sheet_len))
         exit(1);
@@ -53,6 +60,7 @@ typedef uint32_t of_two(const int32_t *, size_t, const int32_t *, size_t, int32_
 typedef uint32_t counter(const int32_t *, size_t, uint32_t *);
 typedef uint32_t splitter(const int32_t *, size_t, int32_t *, size_t, uint32_t *, size_t);
 typedef uint32_t checker(const uint8_t *, size_t, size_t, uint32_t *);
+typedef uint32_t encloser(const double *, size_t, int32_t *, size_t);
 typedef uint32_t lister(const uint8_t *, size_t, size_t, uint8_t *, size_t *);
 
 static double now(void) {
@@ -100,6 +108,13 @@ static double time_split(splitter *f) {
     return (now() - at) / INPUTS;
 }
 
+static double time_enclose(encloser *f) {
+    int32_t out[8] = {0};
+    double at = now();
+    sink = f(tape, 2 * POINTS, out, 8) + (uint32_t)out[0];
+    return now() - at;
+}
+
 static double time_list(lister *f) {
     size_t written = 0;
     double at = now();
@@ -133,6 +148,7 @@ int main(void) {
         bounds(elements[i], 40);
     }
     fill_sheet();
+    fill_tape();
     printf("%-12s %12s %12s %8s\n", "ns per call", "proved", "plain C", "ratio");
     COMPARE("normalise", TURNS, time_one, kx_normalise, plain_normalise);
     COMPARE("count", TURNS, time_count, kx_count, plain_count);
@@ -141,6 +157,7 @@ int main(void) {
     COMPARE("opening", TURNS, time_two, kx_opening, plain_opening);
     COMPARE("closing", TURNS, time_two, kx_closing, plain_closing);
     COMPARE("split", TURNS, time_split, kx_decompose, plain_decompose);
+    COMPARE("enclose", TURNS, time_enclose, kx_enclose, plain_enclose);
     COMPARE("sheet check", SHEET_TURNS, time_check, kx_sheet_check, plain_sheet_check);
     COMPARE("listing", SHEET_TURNS, time_list, kx_list, plain_list);
     return 0;

@@ -1,5 +1,5 @@
 /* Compares every exported call with what oracle.h works out, on random and damaged inputs, and says how many it compared.
- * usage: compare [ROUNDS] [SHEETS] */
+ * usage: compare [ROUNDS] [SHEETS] [TAPES] */
 #include "compare.h"
 #include <stdio.h>
 #include <stdlib.h>
@@ -32,6 +32,7 @@ void agree(const char *call, const int32_t *p, uint32_t got, uint32_t want, int 
 
 int main(int argc, char **argv) {
     uint64_t rounds = argc > 1 ? strtoull(argv[1], NULL, 10) : 4000000, sheets = argc > 2 ? strtoull(argv[2], NULL, 10) : 1000000;
+    uint64_t tapes = argc > 3 ? strtoull(argv[3], NULL, 10) : 4000000;
     compare_constants();
     for (uint64_t i = 0; i < rounds; i++) {
         int32_t p[8], f[8];
@@ -47,7 +48,10 @@ int main(int argc, char **argv) {
     for (uint64_t i = 0; i < sheets; i++)
         compare_sheet();
     compare_full();
-    printf("inputs %llu, calls compared %llu, accepted %llu, no difference\n", (unsigned long long)(rounds + sheets), (unsigned long long)compared, (unsigned long long)accepted);
+    for (uint64_t i = 0; i < tapes; i++)
+        compare_tape();
+    compare_long_tapes();
+    printf("inputs %llu, calls compared %llu, accepted %llu, no difference\n", (unsigned long long)(rounds + sheets + tapes), (unsigned long long)compared, (unsigned long long)accepted);
     printf("by sets of cells: octagons %llu, pairs %llu, outlines %llu, splits %llu\n", (unsigned long long)octagons_by_cells, (unsigned long long)pairs_by_cells, (unsigned long long)outlines_by_cells, (unsigned long long)splits_by_cells);
     printf("listings %llu\n", (unsigned long long)listings);
     printf("answers");

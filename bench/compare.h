@@ -14,6 +14,8 @@ void random_bounds(int32_t c[8], int size, int row);
 void random_outline(int32_t start[2], uint32_t n[8], uint32_t size);
 /* A plot whose outline mostly fits a record. */
 void random_plot(plot *p);
+/* A tape whose points are mostly on the map, about half of them at or next to the edges of cells. */
+void random_tape(double *tape, size_t len);
 
 /* ---- what was compared (compare.c) */
 
@@ -33,7 +35,7 @@ int32_t *cleared(int32_t out[8]);
 /* An answer with octagon: the number, and every place of `out`, which was cleared before. */
 void check(const char *call, const int32_t *p, const int32_t *f, uint32_t got, const int32_t out[8], answer want);
 
-/* ---- the parts (compare_octagons.c, compare_pairs.c, compare_lengths.c, compare_sheets.c) */
+/* ---- the parts (compare_octagons.c, compare_pairs.c, compare_lengths.c, compare_sheets.c, compare_tapes.c) */
 
 void compare_one(const int32_t c[8], uint64_t round);
 void compare_two(const int32_t p[8], const int32_t f[8]);
@@ -45,5 +47,8 @@ void compare_constants(void);
 void compare_sheet(void);
 /* A sheet that is filled to the limit, by inserts in any order. */
 void compare_full(void);
+void compare_tape(void);
+/* Tapes of up to a million numbers. */
+void compare_long_tapes(void);
 
 #endif

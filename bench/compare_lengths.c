@@ -3,7 +3,7 @@
 #include <string.h>
 
 /* How many calls compare_lengths makes. */
-enum { CALLS = 21 };
+enum { CALLS = 23 };
 
 void compare_lengths(const int32_t p[8], const int32_t f[8]) {
     int32_t out[9], start[3] = {1, 2, 3};
@@ -20,6 +20,7 @@ void compare_lengths(const int32_t p[8], const int32_t f[8]) {
     right &= kx_sheet_fetch(sheet, 64, 64, 0, &number, start, u, n, 8) == KX_WRONG_LENGTH && kx_sheet_read(sheet, 64, 64, 0, 0, &number, start, 2, n, w) == KX_WRONG_LENGTH;
     right &= kx_sheet_insert(sheet, 64, 64, 1, start, u, n, 8, &grown) == KX_WRONG_LENGTH && kx_decompose(p, w, start, 2, n, 13) == KX_WRONG_LENGTH;
     right &= kx_decompose(p, 8, start, u, n, 13) == KX_WRONG_LENGTH && kx_decompose(p, 8, start, 2, n, any() % 2 ? 12 : 14) == KX_WRONG_LENGTH;
+    right &= kx_enclose(metres, 2, out, w) == KX_WRONG_LENGTH && kx_enclose(metres, 3, out, w) == KX_WRONG_LENGTH;
     for (int k = 0; k < 8; k++)
         right &= out[k] == -1 - k;
     for (int k = 0; k < 14; k++)
@@ -44,6 +45,10 @@ void compare_constants(void) {
     const int named[] = {KX_MAP_LIMIT, KX_FOLD_LIMIT, KX_SHEET_LIMIT, KX_RECORD, KX_TRAILER, KX_BOUNDS, KX_START, KX_SIDES, KX_COUNTS, KX_PLACE, KX_LINE, KX_TEXT};
     const int wanted[] = {LIMIT, FOLDS, SHEET, RECORD, TRAILER, 8, 2, 8, PIECES, 2, 12 * 21, 12 * 21 * ((SHEET - TRAILER) / RECORD + 2)};
     agree("the constants", NULL, 0, 0, !memcmp(named, wanted, sizeof named));
+    const int refusals[] = {KX_NO_CELL, KX_OFF_MAP, KX_NOT_CLOSED, KX_OPPOSED_ROWS, KX_NOTHING_LEFT, KX_TOO_MANY_FOLDS, KX_NO_VERTEX, KX_BAD_LENGTH,
+        KX_BAD_TRAILER, KX_BAD_DISTANCE, KX_BAD_NUMBER, KX_NO_ROOM, KX_NO_RECORD, KX_NOT_FINITE, KX_NO_POINT, KX_HALF_POINT};
+    for (int k = 0; k < (int)(sizeof refusals / sizeof *refusals); k++)
+        agree("the numbers of the refusals", NULL, (uint32_t)refusals[k], (uint32_t)k + 1, 1);
     agree("the map limit", NULL, kx_to_octagon(edge, KX_START, none, KX_SIDES, out, KX_BOUNDS), 0, 1);
     agree("past the map limit", NULL, kx_to_octagon(past, KX_START, none, KX_SIDES, out, KX_BOUNDS), KX_OFF_MAP, 1);
     agree("the fold limit", NULL, kx_erode_n(cell, KX_BOUNDS, cell, KX_BOUNDS, KX_FOLD_LIMIT, out, KX_BOUNDS), 0, 1);

@@ -1,5 +1,8 @@
 /* Random and damaged inputs, from a fixed seed. */
 #include "compare.h"
+#include <float.h>
+#include <math.h>
+#include <string.h>
 
 static uint64_t seed = 0x9e3779b97f4a7c15u;
 
@@ -67,4 +70,57 @@ void random_plot(plot *p) {
     for (int k = 0; k < 8; k++)
         p->sides[k] &= any() % 64 ? 0xffff : 0xffffffff;
     p->number = any() % 16 ? any() % 64 : any();
+}
+
+/* The number so many steps above another, where that is not nought. */
+static double stepped(double metres, int32_t steps) {
+    int64_t bits;
+    memcpy(&bits, &metres, sizeof bits);
+    bits += metres < 0 ? -steps : steps;
+    memcpy(&metres, &bits, sizeof metres);
+    return metres;
+}
+
+/* Any bits: mostly far off the map or next to nought. */
+static double any_number(void) {
+    uint64_t high = any(), bits = high << 32 | any();
+    double metres;
+    memcpy(&metres, &bits, sizeof metres);
+    return metres;
+}
+
+/* The lower edge of a cell, or a number a few steps from it. */
+static double near_edge(int32_t n) { return stepped((double)(2 * n - 1) / 8, any() % 2 ? 0 : from(-3, 3)); }
+
+/* A coordinate of the map, with many bits of fraction. */
+static double anywhere(void) { return from(-1000000000, 1000000000) * 4e-6; }
+
+/* A coordinate of the map: at an edge of a cell, next to nought, or anywhere. */
+static double coordinate(void) {
+    switch (any() % 4) {
+    case 0: return near_edge(any() % 2 ? from(-LIMIT + 1, LIMIT) : from(-8, 8));
+    case 1: return near_edge(any() % 2 ? LIMIT - from(0, 2) : 1 - LIMIT + from(0, 2));
+    case 2: return anywhere() / (double)(UINT64_C(1) << any() % 63);
+    default: return anywhere();
+    }
+}
+
+/* One that is not finite, or the least or the greatest, or at or past the edge of the map, or anything. */
+static double strange(void) {
+    static const double missing[] = {NAN, -NAN, INFINITY, -INFINITY};
+    static const double least[] = {0.0, -0.0, DBL_TRUE_MIN, -DBL_TRUE_MIN, DBL_MIN, -DBL_MIN, DBL_MAX, -DBL_MAX};
+    switch (any() % 5) {
+    case 0: return missing[any() % 4];
+    case 1: return least[any() % 8];
+    case 2: return near_edge(any() % 2 ? LIMIT + 1 : -LIMIT);
+    case 3: return anywhere() * (double)(UINT64_C(1) << any() % 63);
+    default: return any_number();
+    }
+}
+
+void random_tape(double *tape, size_t len) {
+    for (size_t i = 0; i < len; i++)
+        tape[i] = coordinate();
+    for (uint32_t strangers = len && any() % 2 ? any() % 4 : 0; strangers > 0; strangers--)
+        tape[any() % len] = strange();
 }

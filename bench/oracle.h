@@ -1,6 +1,6 @@
-/* What document 01 says of each call, worked out without the library's formulas: by sets of cells on a window of the grid
+/* What documents 01 and 02 say of each call, worked out without the library's formulas: by sets of cells on a window of the grid
  * (cells.c), by walking outlines (walks.c), by searching the rows and columns of any eight bounds (search.c), by the rule of the
- * pieces (splits.c), by bytes (sheets.c) and by printf (listings.c). */
+ * pieces (splits.c), by bytes (sheets.c), by printf (listings.c) and from the bits of a number (tapes.c). */
 #ifndef ORACLE_H
 #define ORACLE_H
 #include <stddef.h>
@@ -90,5 +90,16 @@ uint32_t sheet_after_start(uint8_t *s, size_t room, size_t heading, size_t *len)
 uint32_t sheet_after_insert(uint8_t *s, size_t room, size_t len, const plot *p, size_t *grown);
 /* The listing of a sheet, and its length. */
 size_t listing_of(const uint8_t *s, size_t room, size_t len, char *text);
+
+/* ---- tapes, from the bits of a number */
+
+/* Whether a number is finite. */
+int is_number(double metres);
+/* The cell of a finite coordinate, or that one past the map's edge where it is farther. */
+int64_t cell_by_bits(double metres);
+/* The same by search among the cells' edges, which are exact. */
+int64_t cell_by_search(double metres);
+/* What a tape gives: 15, 16; then point by point 14, 2; or the bounds that the points' cells reach. */
+answer enclosed(const double *tape, size_t len);
 
 #endif

@@ -1,6 +1,7 @@
-/* The library from C: cases of document 01, and a plot and a frame whose numbers all differ, as `build.sh` compares them with
- * expected.txt. */
+/* The library from C: cases of document 01, a plot and a frame whose numbers all differ, and a surveyor's tape, as `build.sh` compares
+ * them with expected.txt. */
 #include "koxirmeta.h"
+#include <math.h>
 #include <stdio.h>
 #include <string.h>
 
@@ -142,6 +143,31 @@ static void splits(void) {
     show_split("split of crossed bounds", CROSSED);
 }
 
+/* Writes the octagon round a tape, and its outline, or the refusal. */
+static void survey(const char *what, const double *tape, size_t len) {
+    int32_t out[KX_BOUNDS] = {0};
+    uint32_t answer = kx_enclose(tape, len, out, KX_BOUNDS);
+    if (answer != KX_ACCEPTED) {
+        printf("%s: refused %u\n", what, answer);
+        return;
+    }
+    show_bounds(what, out);
+    show("its outline", answer, out);
+}
+
+/* An irregular plot, from its lowest corner round; a point that was not measured; tapes that end early; and the edge of the map. */
+static void tapes(void) {
+    static const double plot[18] = {12.3, -4.875, 17.62, -4.4, 21.125, -1.07, 22.09, 3.7, 19.84, 8.33, 14.6, 10.95, 9.4, 9.2, 6.375, 5.05, 7.9, -1.375};
+    const double gap[6] = {12.3, -4.875, 17.62, NAN, 4100.5, 3.7}, far[6] = {12.3, -4.875, 4000.125, -4.4, INFINITY, 3.7};
+    const double edge[2] = {4000.0625, -4000.125};
+    survey("surveyed plot", plot, 18);
+    survey("a point that was not measured", gap, 6);
+    survey("a point off the map", far, 6);
+    survey("nine numbers", plot, 9);
+    survey("no point", plot, 0);
+    survey("a point at the edge of the map", edge, 2);
+}
+
 /* Writes the listing of a sheet as it is. */
 static void listing(const uint8_t *sheet, size_t room, size_t len) {
     static uint8_t text[KX_TEXT];
@@ -220,6 +246,7 @@ int main(void) {
     octagons();
     uneven();
     splits();
+    tapes();
     sheets();
     limits();
     return 0;

@@ -3,21 +3,26 @@
  * Every function is proved: crates/koxirmeta_c, and crates/listing_c for the listing, state what each answers and what it leaves in
  * the memory that it was lent, and Rattle's checker has accepted it. bindings/archive.sh makes target/bindings/libkoxirmeta.a.
  *
- * ANSWERS. Each call returns KX_ACCEPTED (0), the number of a refusal of document 01, or KX_WRONG_LENGTH. Only an accepted call
- * writes: after any other answer, all that was lent holds what it held before.
+ * ANSWERS. Each call returns KX_ACCEPTED (0), the number of a refusal of documents 01 and 02, or KX_WRONG_LENGTH. Only an accepted
+ * call writes: after any other answer, all that was lent holds what it held before.
  *
  * ARGUMENTS. A slice is passed as a pointer and then the number of its elements. A call that is lent a slice of the wrong length
  * answers KX_WRONG_LENGTH, whatever else is wrong. What no callee can test is the caller's to keep:
  *   - a pointer is not null, not even with the length 0, is aligned for its type, and points to as many elements as the length
  *     says, all of them initialised, those that are written to as well;
  *   - the text of kx_list, an array of one length, is passed without it: KX_TEXT bytes, all of them initialised;
- *   - what is written to overlaps no other argument.
+ *   - what is written to overlaps no other argument;
+ *   - doubles are rounded to the nearest, as every program starts (kx_enclose, in a thread that rounds otherwise, may be wrong).
  *
  * OCTAGONS. Eight bounds c0 to c7, every value allowed: the cells (x, y) with -y <= c0, x-y <= c1, x <= c2, x+y <= c3, y <= c4,
  * -x+y <= c5, -x <= c6 and -x-y <= c7. Octagons that are written are normalised: each bound is reached by a cell.
  *
  * OUTLINES. A start (i, j), the lowest corner and of the lowest the leftmost, and eight side lengths, counter-clockwise from the
- * step (1, 0). */
+ * step (1, 0).
+ *
+ * TAPES. A surveyor's points in metres, east and north in turn: two numbers for a point, as many points as there are. Every double
+ * may be passed. A coordinate e falls on the greatest whole number n with n * 0.25 - 0.125 <= e, worked out without loss; the two
+ * numbers of a point are the cell that it falls on. */
 #ifndef KOXIRMETA_H
 #define KOXIRMETA_H
 
@@ -59,7 +64,10 @@ enum {
     KX_BAD_NUMBER = 11,      /* a plot number is 0, out of order or present */
     KX_NO_ROOM = 12,         /* the buffer or the sheet has no room */
     KX_NO_RECORD = 13,       /* there is no such record */
-    KX_WRONG_LENGTH = 255    /* a slice of the wrong length: the caller's mistake, and no number of document 01 */
+    KX_NOT_FINITE = 14,      /* a coordinate of a tape is an infinity or no number */
+    KX_NO_POINT = 15,        /* the tape is empty */
+    KX_HALF_POINT = 16,      /* the tape's length is odd: it ends in half a point */
+    KX_WRONG_LENGTH = 255    /* a slice of the wrong length: the caller's mistake, and no number of the documents */
 };
 
 /* The normal form of eight bounds, to out[KX_BOUNDS]. Refusals: 1, 2. */
@@ -97,6 +105,11 @@ uint32_t kx_vertex_place(const int32_t *bounds, size_t bounds_len, uint32_t k, d
 /* The split of eight bounds: the start cell to start[KX_START], and how many there are of the pieces K1 to K13 to
  * counts[KX_COUNTS]. Refusals: 1, 2. */
 uint32_t kx_decompose(const int32_t *bounds, size_t bounds_len, int32_t *start, size_t start_len, uint32_t *counts, size_t counts_len);
+
+/* The smallest octagon that holds the cell of every point of a tape, to out[KX_BOUNDS]. tape_len counts numbers, not points, and
+ * no value of it is answered with KX_WRONG_LENGTH. Refusals: 15 when it is 0, 16 when it is odd; then for each point in turn 14
+ * when either coordinate is not finite, and 2 when its cell lies off the map. */
+uint32_t kx_enclose(const double *tape, size_t tape_len, int32_t *out, size_t out_len);
 
 /* A sheet stands in the first len of the sheet_len bytes of a buffer: a heading, records of KX_RECORD bytes each and a trailer
  * of KX_TRAILER. */

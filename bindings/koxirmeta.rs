@@ -46,7 +46,7 @@ pub struct Plot {
 
 macro_rules! refusals {
     ($($(#[$attribute:meta])* $name:ident = $number:literal,)*) => {
-        /// Why a call was refused: a number of document 01, or the caller's mistake.
+        /// Why a call was refused: a number of documents 01 and 02, or the caller's mistake.
         #[non_exhaustive]
         #[derive(Clone, Copy, Debug, PartialEq, Eq, Hash)]
         pub enum Refusal {
@@ -110,7 +110,13 @@ refusals! {
     NoRoom = 12,
     /// There is no such record.
     NoRecord = 13,
-    /// A slice of the wrong length: the caller's mistake, and no number of document 01.
+    /// A coordinate of a tape is an infinity or no number.
+    NotFinite = 14,
+    /// The tape is empty.
+    NoPoint = 15,
+    /// The tape's length is odd: it ends in half a point.
+    HalfPoint = 16,
+    /// A slice of the wrong length: the caller's mistake, and no number of the documents.
     WrongLength = 255,
 }
 
@@ -131,6 +137,9 @@ impl fmt::Display for Refusal {
             Refusal::BadNumber => write!(f, "a plot number is 0, out of order or present"),
             Refusal::NoRoom => write!(f, "the buffer or the sheet has no room"),
             Refusal::NoRecord => write!(f, "there is no such record"),
+            Refusal::NotFinite => write!(f, "a coordinate of the tape is an infinity or no number"),
+            Refusal::NoPoint => write!(f, "the tape is empty"),
+            Refusal::HalfPoint => write!(f, "the length of the tape is odd, so that it ends in half a point"),
             Refusal::WrongLength => write!(f, "a slice has the wrong length"),
             Refusal::Unknown(_) => write!(f, "a number of another version of the library"),
         }
@@ -153,6 +162,7 @@ mod calls {
         pub fn kx_to_outline(bounds: *const i32, bounds_len: usize, start: *mut i32, start_len: usize, sides: *mut u32, sides_len: usize) -> u32;
         pub fn kx_vertex_place(bounds: *const i32, bounds_len: usize, k: u32, place: *mut f64, place_len: usize) -> u32;
         pub fn kx_decompose(bounds: *const i32, bounds_len: usize, start: *mut i32, start_len: usize, counts: *mut u32, counts_len: usize) -> u32;
+        pub fn kx_enclose(tape: *const f64, tape_len: usize, out: *mut i32, out_len: usize) -> u32;
         pub fn kx_sheet_check(sheet: *const u8, sheet_len: usize, len: usize, count: *mut u32) -> u32;
         pub fn kx_sheet_fetch(sheet: *const u8, sheet_len: usize, len: usize, k: u32, number: *mut u32, start: *mut i32, start_len: usize, sides: *mut u32, sides_len: usize) -> u32;
         pub fn kx_sheet_read(sheet: *const u8, sheet_len: usize, len: usize, count: u32, k: u32, number: *mut u32, start: *mut i32, start_len: usize, sides: *mut u32, sides_len: usize) -> u32;
@@ -254,6 +264,15 @@ pub fn decompose(bounds: &Bounds) -> Result<(Start, Counts), Refusal> {
     answer(|(start, counts): &mut (Start, Counts)| unsafe {
         calls::kx_decompose(bounds.as_ptr(), bounds.len(), start.as_mut_ptr(), start.len(), counts.as_mut_ptr(), counts.len())
     })
+}
+
+/// The smallest octagon that holds the cell of every point of a tape: metres, east and north in turn, two numbers for a point.
+///
+/// A coordinate e falls on the greatest whole number n with n * 0.25 - 0.125 <= e, worked out without loss.
+///
+/// Refusals: `NoPoint`, `HalfPoint`; then for each point in turn `NotFinite`, `OffMap`.
+pub fn enclose(tape: &[f64]) -> Result<Bounds, Refusal> {
+    answer(|out: &mut Bounds| unsafe { calls::kx_enclose(tape.as_ptr(), tape.len(), out.as_mut_ptr(), out.len()) })
 }
 
 /// How many records the sheet in the first `len` bytes has.

@@ -6,7 +6,7 @@ limits. Both are piecewise linear in y, the width of a row is concave, and so is
 opposites in a row. So the rows that have a cell are found from the widest row by bisection, each tight bound by ternary search
 over them, and the cells are counted row by row. None of this uses the library's normal form or its cell count.
 
-The constants are read off the sentences of document 01.
+The constants are read off the sentences of documents 01 and 02.
 """
 
 import re
@@ -133,7 +133,7 @@ def sides(piece):
 def constants():
     """The map, the folds, a sheet's length, a record's and a trailer's; the refusals; the constants of the octagon; the tables."""
     print("limits", *(words.replace(",", "") for words in ("16,000", "65,535", "65,536", "24", "16")))
-    print("refusals", *range(1, 14))
+    print("refusals", *range(1, 17))
     print("origin", *[0] * 8)
     print("built", *range(1, 9))
     print("steps", *(n for step in re.findall(r"(-?\d),(-?\d)", STEPS) for n in step))

@@ -1,12 +1,15 @@
 #!/usr/bin/env python3
 """Works out what the examples of bindings/ write, on its own: python3 tests/examples.py > bindings/expected.txt
 
-It shares with the examples in C and Rust their operands and the words of a line. What the calls answer is worked out by cells.py and
-sheets.py.
+It shares with the examples in C and Rust their operands and the words of a line. What the calls answer is worked out by cells.py,
+enclosing.py and sheets.py.
 """
+from math import inf, nan
+
 import sheets
 from cells import PAIRED, PIECES, WRONG_LENGTH, corner, inside, outline, some, split, tightest
 from sheets import Refused
+from enclosing import enclose
 
 
 def words(values):
@@ -99,6 +102,25 @@ def splits():
     yield parted("split of the uneven plot", UNEVEN) + parted("split of crossed bounds", CROSSED)
 
 
+SURVEY = [12.3, -4.875, 17.62, -4.4, 21.125, -1.07, 22.09, 3.7, 19.84, 8.33, 14.6, 10.95, 9.4, 9.2, 6.375, 5.05, 7.9, -1.375]
+
+
+def surveyed(what, tape):
+    try:
+        bounds = enclose(tape)
+    except Refused as refusal:
+        return "%s: refused %d\n" % (what, refusal.args[0])
+    return bounded(what, bounds) + drawn("its outline", lambda: some(bounds))
+
+
+def tapes():
+    yield surveyed("surveyed plot", SURVEY)
+    yield surveyed("a point that was not measured", [12.3, -4.875, 17.62, nan, 4100.5, 3.7])
+    yield surveyed("a point off the map", [12.3, -4.875, 4000.125, -4.4, inf, 3.7])
+    yield surveyed("nine numbers", SURVEY[:9]) + surveyed("no point", [])
+    yield surveyed("a point at the edge of the map", [4000.0625, -4000.125])
+
+
 def record(what, found):
     return "%s: 0 number %d start %d %d sides %s\n" % (what, *found[:3], words(found[3]))
 
@@ -145,5 +167,5 @@ def limits():
 
 
 if __name__ == "__main__":
-    for part in octagons, uneven, splits, on_sheets, limits:
+    for part in octagons, uneven, splits, tapes, on_sheets, limits:
         print("".join(part()), end="")

@@ -2,13 +2,15 @@
 """Works out what crates/export_cases writes, on its own: python3 tests/exports.py > crates/export_cases/stdout
 
 It shares with the program its operands and the form of a line: the name of a call, the number that it answers, and the memory that it
-was lent, as it is afterwards. What the calls answer is worked out by cells.py and sheets.py.
+was lent, as it is afterwards. What the calls answer is worked out by cells.py, enclosing.py and sheets.py.
 """
 import struct
+from math import inf, isnan, nan
 
 import sheets
 from cells import PAIRED, WRONG_LENGTH, corner, inside, outline, some, split, tightest
 from sheets import Refused
+from enclosing import enclose
 
 PLOT = [5, 4, 0, 10, 12, 19, 11, 9]
 OCTAGONS = [PLOT, [-4, -1, 5, 11, 7, 4, -2, -7], [5, 4, 0, 10, 40, 27, 11, 20], [6, 2, 7, 5, 8, -2, 9, -5]]
@@ -42,6 +44,11 @@ def from_number(first, count):
     return list(range(first, first + count))
 
 
+def bits(places):
+    """The 64 bits of each number of metres, in hexadecimal digits; `nan` for what is no number."""
+    return ["nan" if isnan(metres) else struct.pack(">d", metres).hex() for metres in places]
+
+
 # ---- octagons
 
 
@@ -70,7 +77,7 @@ def to_octagon(start, sides, out):
 
 def vertex_place(plot, k, place):
     number = called(len(place) == 2, lambda: [corner(plot, k)], place)
-    return line("vertex_place", number, [struct.pack(">d", metres).hex() for metres in place])
+    return line("vertex_place", number, bits(place))
 
 
 def octagons():
@@ -86,6 +93,30 @@ def octagons():
         yield vertex_place(plot, k % 9, [0.5, -0.75]) + vertex_place(plot, k % 9, [0.5, -0.75, 1.25])
     yield from operate(PLOT[:7], OCTAGONS[1], 1)
     yield count(PLOT[:7])
+
+
+# ---- tapes
+
+SURVEY = [-7.31, -12.85, 3.44, -14.2, 10.375, -11.06, 12.9, -5.625, 11.7, 1.52, 5.08, 6.125, -1.96, 5.9, -8.4, 0.77, -9.875, -6.3]
+EDGES = [[0.125, -0.125], [0.375, -0.375], [0.12499999999999999, -0.12500000000000003], [0.37499999999999994, -0.37500000000000006]]
+EDGES += [[-0.0, 0.0], [4000.1249999999995, -4000.125], [-4000.125, 4000.1249999999995]]
+LENGTHS = [[5000.5, nan, 1.3, inf, 6000.75][:n] for n in (0, 1, 3, 5)]
+NOT_FINITE = [[nan, 2.6], [3.1, inf], [-inf, -2.2], [1.4, 2.7, -3.3, 4.6, 5.8, nan]]
+NOT_FINITE += [[4001.5, nan], [inf, -4002.25], [2.9, -inf, 4003.75, 1.1]]
+OFF_MAP = [[4000.125, 1.7], [-2.8, 4000.125], [-4000.1250000000005, 3.9], [4.2, -4000.1250000000005]]
+OFF_MAP += [[1.0e300, -2.0e300], [5.3, -6.4, 7.6, -8000.0], [-4005.5, 6.6, nan, 7.7]]
+
+
+def on_tape(tape, places=8):
+    out = from_number(101, places)
+    return line("enclose", called(places == 8, lambda: [enclose(tape)], out), out, bits(tape))
+
+
+def on_tapes():
+    for tape in [SURVEY, SURVEY[:6]] + EDGES + LENGTHS + NOT_FINITE + OFF_MAP:
+        yield on_tape(tape)
+    for length, places in (2, 7), (2, 9), (0, 7), (3, 9):
+        yield on_tape([1.9, -2.3, 4.7][:length], places)
 
 
 # ---- sheets
@@ -149,4 +180,4 @@ def on_sheets():
 
 
 if __name__ == "__main__":
-    print("".join(octagons()) + "".join(on_sheets()), end="")
+    print("".join(octagons()) + "".join(on_tapes()) + "".join(on_sheets()), end="")

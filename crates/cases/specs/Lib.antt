@@ -1,4 +1,4 @@
--- The squared-paper cases of document 01 that are proved, and its numbers.
+-- The squared-paper cases of document 01 that are proved, its numbers, and document 02's.
 pub mod Shorthand
 pub mod Starred
 pub mod Numbers

@@ -1,5 +1,5 @@
--- Document 01's limits, refusal numbers and tables, with the values that it prints, by one computed test over a list. Theorems name
--- constants; this list says what the constants are. Assumes nothing.
+-- Document 01's limits, refusal numbers and tables, and document 02's refusal numbers, with the values that they print, by one computed
+-- test over a list. Theorems name constants; this list says what the constants are. Assumes nothing.
 use mathlib.Core.Path.{_≡_, refl}
 use mathlib.Core.List.{List, [], _∷_, map}
 use Prim.Native.Nat.{ℕ, _*_}
@@ -18,9 +18,11 @@ use Rattle.decomposition.specs.Pieces.{outlines, piece-of}
 use Rattle.records.specs.Numbers.{bytes}
 use Rattle.sheet.specs.Layout.{sheet-limit, record-length, trailer-length, layout, letters, trailer-layout}
 use Rattle.sheet.specs.Answers.{bad-length, bad-trailer, bad-distance, bad-number, no-room, no-record}
+use Rattle.tape.specs.Snapping.{not-finite}
+use Rattle.tape.specs.Enclosing.{no-point, half-point}
 use Rattle.cases.specs.Shorthand.{Case, is}
 
--- ---- what document 01 prints
+-- ---- what the documents print
 
 -- "both coordinates from -16,000 to 16,000", "6 when n is above 65,535", "8 when the length is .. above 65,536", "A record is 24 bytes",
 -- "The trailer is 16 bytes"
@@ -28,9 +30,9 @@ abbrev pub printed-limits : List ℕ
 printed-limits = 16000 ∷ 65535 ∷ 65536 ∷ 24 ∷ 16 ∷ []
 
 -- the refusals: no cell, off the map, not closed, opposed rows, nothing left, too many folds, corner above 7, length, trailer, distance,
--- plot number, no room, no record
+-- plot number, no room, no record; and those of document 02: not finite, no point, half a point
 abbrev pub printed-refusals : List ℕ
-printed-refusals = 1 ∷ 2 ∷ 3 ∷ 4 ∷ 5 ∷ 6 ∷ 7 ∷ 8 ∷ 9 ∷ 10 ∷ 11 ∷ 12 ∷ 13 ∷ []
+printed-refusals = 1 ∷ 2 ∷ 3 ∷ 4 ∷ 5 ∷ 6 ∷ 7 ∷ 8 ∷ 9 ∷ 10 ∷ 11 ∷ 12 ∷ 13 ∷ 14 ∷ 15 ∷ 16 ∷ []
 
 -- "the letters GRND"
 abbrev pub printed-letters : List ℕ
@@ -95,7 +97,7 @@ thirteen = 0 ∷ 1 ∷ 2 ∷ 3 ∷ 4 ∷ 5 ∷ 6 ∷ 7 ∷ 8 ∷ 9 ∷ 10 ∷ 11
 pub fixed-numbers : List (Case Fixed)
 fixed-numbers =
     is (numbers (limit ∷ fold-limit ∷ sheet-limit ∷ record-length ∷ trailer-length ∷ [])) (numbers printed-limits) ∷
-    is (numbers (no-cell ∷ off-map ∷ not-closed ∷ opposed-rows ∷ nothing-left ∷ too-many-folds ∷ no-vertex ∷ bad-length ∷ bad-trailer ∷ bad-distance ∷ bad-number ∷ no-room ∷ no-record ∷ []))
+    is (numbers (no-cell ∷ off-map ∷ not-closed ∷ opposed-rows ∷ nothing-left ∷ too-many-folds ∷ no-vertex ∷ bad-length ∷ bad-trailer ∷ bad-distance ∷ bad-number ∷ no-room ∷ no-record ∷ not-finite ∷ no-point ∷ half-point ∷ []))
     (numbers printed-refusals) ∷
     is (numbers (bytes 4 letters)) (numbers printed-letters) ∷
     is (numbers (map (λ w. 8 * w) layout)) (numbers printed-record-fields) ∷
@@ -107,7 +109,7 @@ fixed-numbers =
     is (pieces-of outlines) (pieces-of printed-outlines) ∷
     []
 
--- each is as document 01 prints it
+-- each is as the documents print it
 pub as-printed : map (λ c. c .given) fixed-numbers ≡ map (λ c. c .expected) fixed-numbers
 unfolding fixed-numbers pieces piece-sides piece-of outlines
 as-printed = refl

@@ -1,4 +1,4 @@
-// The library's constants on lines of their own. The contracts say that they are what document 01 prints (specs/Numbers.antt).
+// The library's constants on lines of their own. The contracts say that they are what documents 01 and 02 print (specs/Numbers.antt).
 ghost use mathlib.Core.Path.{_≡_};
 ghost use lib.IntN.{pos};
 ghost use lib.ListN.{getD, replicate};
@@ -24,7 +24,7 @@ fn limits() -> [u32; 5]
     ]
 }
 
-fn refusals() -> [u32; 13]
+fn refusals() -> [u32; 16]
     ensures { λ r. ⌜ r ≡ numbers.printed-refusals ⌝ }
 {
     [
@@ -41,6 +41,9 @@ fn refusals() -> [u32; 13]
         sheet::BAD_NUMBER,
         sheet::NO_ROOM,
         sheet::NO_RECORD,
+        tape::NOT_FINITE,
+        tape::NO_POINT,
+        tape::HALF_POINT,
     ]
 }
 

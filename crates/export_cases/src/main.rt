@@ -5,6 +5,7 @@ mod outlines;
 mod print;
 mod samples;
 mod sheets;
+mod tapes;
 
 // Each octagon, in each call that takes one.
 fn each_octagon() {
@@ -21,5 +22,6 @@ fn each_octagon() {
 fn main() {
     each_octagon();
     octagons::misfits();
+    tapes::tapes();
     sheets::sheets();
 }

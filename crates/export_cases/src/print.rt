@@ -22,11 +22,13 @@ fn integer(z: i32) {
     io::print_decimal(STDOUT_FILENO, magnitude(z));
 }
 
-// The 64 bits of a number of metres after a space, in hexadecimal digits.
+// The 64 bits of a number of metres after a space, in hexadecimal digits; the letters `nan` where it is none.
 fn metres(x: f64) {
     text(b" ");
     if x == x {
         io::print_hex(STDOUT_FILENO, f64::to_bits(x), 16);
+    } else {
+        text(b"nan");
     }
 }
 

@@ -139,6 +139,19 @@ widened f = rw (toZ-ofZ f) (wide-fits f)
 pub kept : (w : Width) {z : ℤ} → mag z < 2 ^ hbits w → toZ w (ofZ w z) ≡ z
 kept w h = toZ-ofZ (record { sfits = h })
 
+-- a negated number is a difference from 0, and a difference may follow it
+pub minus : {w : Width} {z : ℤ} → SFits w z → SFits w (pos 0 +ℤ z)
+minus f = rw +ℤ-idl f
+
+pub negated : {w : Width} {z : ℤ} → SFits w z → toZ w (ofZ w (pos 0 +ℤ z)) ≡ z
+negated {z = z} f = toZ-ofZ (minus f) ∙ +ℤ-idl z
+
+pub minus-both : {w : Width} {y : ℤ} (z : ℤ) → SFits w y → SFits w (y +ℤ z) → SFits w (toZ w (ofZ w (pos 0 +ℤ y)) +ℤ z)
+minus-both z f g = rw (negated f) g
+
+pub negated-both : {w : Width} {y : ℤ} (z : ℤ) → SFits w y → SFits w (y +ℤ z) → toZ w (ofZ w (toZ w (ofZ w (pos 0 +ℤ y)) +ℤ z)) ≡ y +ℤ z
+negated-both z f g = rw (negated f) (toZ-ofZ g)
+
 pub ruleset signs = (needs, wide-fits, room-fits64, room-fits32, room-i32, room-pos, room-negsuc, room-add, room-neg, room-half, room-min, room-back, room-back32, +ℤ-idl)
 
 -- ---- tests that come back from calls

@@ -1,10 +1,10 @@
 -- Tests of integers that compute, and the linear facts that they tell. Assumes nothing.
-use mathlib.Core.Path.{_≡_, refl}
+use mathlib.Core.Path.{_≡_, refl, sym, _∙_}
 use mathlib.Core.Bool.{Bool, true, false, not, _&&_}
 use native.Mathlib.Omega.{arith}
 use lib.Dec.{T, ltb→lt, nltb→le}
 use lib.IntN.{ℤ, pos, negsuc}
-use lib.Signed.{ltZ, leZ}
+use lib.Signed.{ltZ, leZ, _<ℤ_}
 use Rattle.integers.proofs.Parts.{up, dn, le-parts, parts-le}
 use Rattle.integers.proofs.Linear.{#, _⊕_, lit, _≼_}
 
@@ -53,6 +53,22 @@ test-le a b h = le-parts (record { le = true-T h })
 
 pub le-test : (a b : ℤ) → # a ≼ # b → leZ a b ≡ true
 le-test a b h = T-true (leZ a b) (parts-le a b h .le)
+
+pub not-le-told : (a b : ℤ) → leZ a b ≡ false → # b ⊕ lit 1 ≼ # a
+not-le-told a b h =
+    cases (ltZ b a)
+    (λ e. lt-told b a (true-T e))
+    (λ e. absurd (true-is-not-false (sym (le-test a b (not-lt-told b a (rw e tt))) ∙ h)))
+
+-- the library's strict order, by the parts
+pub lt-parts : {a b : ℤ} → a <ℤ b → # a ⊕ lit 1 ≼ # b
+lt-parts {a} {b} h = lt-told a b (h .lt)
+
+pub not-le-lt : (a b : ℤ) → ¬ (# b ≼ # a) → a <ℤ b
+not-le-lt a b f = cases (ltZ a b) (λ e. record { lt = true-T e }) (λ e. absurd (f (not-lt-told a b (rw e tt))))
+
+pub parts-lt : (a b : ℤ) → # a ⊕ lit 1 ≼ # b → a <ℤ b
+parts-lt a b h = not-le-lt a b (λ (r : # b ≼ # a). omega arith)
 
 -- a conjunction whose last test is of an order
 pub and-le : (t : Bool) (a b : ℤ) → (t && leZ a b) ≡ true → (t ≡ true) × (# a ≼ # b)

@@ -1,7 +1,8 @@
-// The operations that signed code shares: exact sums, multiples and magnitudes, the lesser of two numbers, and half of one rounded down.
+// The operations that signed code shares: exact sums, multiples and magnitudes, the lesser and the greater of two
+// numbers, and half of one rounded down.
 ghost use mathlib.Core.Path.{_≡_};
 ghost use lib.IntN.{pos, natAbs, _+ℤ_, _*ℤ_};
-ghost use Rattle.integers.specs.Minimum.{minℤ, halfℤ};
+ghost use Rattle.integers.specs.Minimum.{minℤ, maxℤ, halfℤ};
 
 // The sum of two numbers, which always fits.
 pub fn sum(a: i32, b: i32) -> i64
@@ -22,6 +23,13 @@ pub fn lesser(a: i64, b: i64) -> i64
     ensures { λ r. ⌜ r ≡ minℤ a b ⌝ }
 {
     if b < a { b } else { a }
+}
+
+// The greater of two numbers.
+pub fn greater(a: i32, b: i32) -> i32
+    ensures { λ r. ⌜ r ≡ maxℤ a b ⌝ }
+{
+    if a < b { b } else { a }
 }
 
 // Half of a number, rounded down: a division would round toward zero.

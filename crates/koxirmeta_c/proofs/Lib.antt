@@ -3,3 +3,4 @@ pub mod Stores
 pub mod Fitting
 pub mod Examples
 pub mod SheetExamples
+pub mod TapeExamples

@@ -10,7 +10,7 @@ use Rattle.octagon.specs.declared.Octagon.{Octagon}
 use Rattle.octagon.specs.Outcome.{Outcome, accepted, refused, left}
 use Rattle.cell_count.specs.Area.{cell-count}
 
--- the number of a call whose slices have the wrong lengths: none of document 01's
+-- the number of a call whose slices have the wrong lengths: none of the documents'
 abbrev pub wrong-length : ℕ
 wrong-length = 255
 

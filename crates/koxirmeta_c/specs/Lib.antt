@@ -2,4 +2,5 @@
 pub mod Calls
 pub mod Outlines
 pub mod Splits
+pub mod Tapes
 pub mod Sheets

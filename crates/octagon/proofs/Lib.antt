@@ -11,4 +11,5 @@ pub mod Outcomes
 pub mod Unique
 pub mod Sides
 pub mod NormalForms
+pub mod Smallest
 pub mod Examples

@@ -6,7 +6,7 @@ use lib.Signed.{_≤ℤ_}
 use Rattle.integers.proofs.Parts.{le-parts, parts-eq}
 use Rattle.integers.proofs.Linear.{#, _≼_}
 use Rattle.octagon.specs.declared.Octagon.{Octagon}
-use Rattle.octagon.specs.Cells.{_⊆_, _≐_, Some, In, Reached}
+use Rattle.octagon.specs.Cells.{Cells, _⊆_, _≐_, Some, In, ReachedBy, Reached}
 
 -- eight bounds that are equal
 pub equal : {a b : Octagon} → a .c0 ≡ b .c0 → a .c1 ≡ b .c1 → a .c2 ≡ b .c2 → a .c3 ≡ b .c3 → a .c4 ≡ b .c4 → a .c5 ≡ b .c5 → a .c6 ≡ b .c6 →
@@ -14,9 +14,8 @@ pub equal : {a b : Octagon} → a .c0 ≡ b .c0 → a .c1 ≡ b .c1 → a .c2 �
 equal e0 e1 e2 e3 e4 e5 e6 e7 i =
     record { c0 = e0 i; c1 = e1 i; c2 = e2 i; c3 = e3 i; c4 = e4 i; c5 = e5 i; c6 = e6 i; c7 = e7 i }
 
--- a bound v that a cell of a reaches is at most b's bound of the same form
-at-most : {a : Octagon} {B : ℤ → ℤ → Type 0} (f : ℤ → ℤ → ℤ) (v w : ℤ) → In a ⊆ B → ((x y : ℤ) → B x y → f x y ≤ℤ w) →
-    Some (λ x y. In a x y × (f x y ≡ v)) → # v ≼ # w
+-- a bound v that a cell of A reaches is at most a bound w of the same form on a set that holds A
+at-most : {A B : Cells} (f : ℤ → ℤ → ℤ) (v w : ℤ) → A ⊆ B → ((x y : ℤ) → B x y → f x y ≤ℤ w) → Some (λ x y. A x y × (f x y ≡ v)) → # v ≼ # w
 at-most f v w h k r = le-parts (rw (r .cell .1) at (k (r .x) (r .y) (h (r .x) (r .y) (r .cell .0))))
 
 -- each bound of a is at most b's
@@ -30,7 +29,8 @@ pub record AtMost (a b : Octagon) : Type 0 where
   pub m6 : # (a .c6) ≼ # (b .c6)
   pub m7 : # (a .c7) ≼ # (b .c7)
 
-pub at-mosts : {a : Octagon} (b : Octagon) → Reached a → In a ⊆ In b → AtMost a b
+-- bounds that cells of A reach are at most those of any octagon that holds A
+pub at-mosts : {a : Octagon} {A : Cells} (b : Octagon) → ReachedBy A a → A ⊆ In b → AtMost a b
 at-mosts {a} b r h = record {
   m0 = at-most (λ x y. negℤ y) (a .c0) (b .c0) h (λ x y i. i .in0) (r .reached0);
   m1 = at-most (λ x y. x -ℤ y) (a .c1) (b .c1) h (λ x y i. i .in1) (r .reached1);

@@ -1,4 +1,4 @@
--- Document 01's number and values for each case of `Answer`, and the octagon of eight 64-bit bounds. Assumes nothing.
+-- The documents' number and values for each case of `Answer`, and the octagon of eight 64-bit bounds. Assumes nothing.
 use Rattle.octagon.specs.declared.Octagon.{Octagon}
 use Rattle.octagon.specs.declared.bounds.Bounds.{Bounds}
 use Rattle.octagon.specs.declared.Answer.{Answer}

@@ -1,6 +1,6 @@
--- Octagons as sets of cells, in the words of document 01. This file is what a reader must believe of sets. Assumes nothing.
+-- Octagons as sets of cells, in the words of documents 01 and 02. This file is what a reader must believe of sets. Assumes nothing.
 use mathlib.Core.Path.{_≡_}
-use mathlib.Core.Logic.{_↔_}
+use mathlib.Core.Logic.{_↔_, _⊎_}
 use Prim.Native.Nat.{ℕ}
 use lib.IntN.{ℤ, pos, negℤ, _+ℤ_, _-ℤ_}
 use lib.Signed.{_≤ℤ_}
@@ -23,6 +23,10 @@ A ≐ B = (x y : ℤ) → A x y ↔ B x y
 -- a set with no cell
 abbrev pub Empty : Cells → Type 0
 Empty A = (x y : ℤ) → ¬ (A x y)
+
+-- the cells of either set
+abbrev pub Either : Cells → Cells → Cells
+Either A B x y = A x y ⊎ B x y
 
 -- some cell of a set
 pub record Some (A : Cells) : Type 0 where
@@ -56,16 +60,20 @@ pub record OnMap (x y : ℤ) : Type 0 where
 abbrev pub LeavesMap : Cells → Type 0
 LeavesMap A = Some (λ x y. A x y × ¬ (OnMap x y))
 
--- every bound is reached: some cell within the bounds meets it with equality
-pub record Reached (c : Octagon) : Type 0 where
-  pub reached0 : Some (λ x y. In c x y × (negℤ y ≡ c .c0))
-  pub reached1 : Some (λ x y. In c x y × (x -ℤ y ≡ c .c1))
-  pub reached2 : Some (λ x y. In c x y × (x ≡ c .c2))
-  pub reached3 : Some (λ x y. In c x y × (x +ℤ y ≡ c .c3))
-  pub reached4 : Some (λ x y. In c x y × (y ≡ c .c4))
-  pub reached5 : Some (λ x y. In c x y × (negℤ x +ℤ y ≡ c .c5))
-  pub reached6 : Some (λ x y. In c x y × (negℤ x ≡ c .c6))
-  pub reached7 : Some (λ x y. In c x y × (negℤ x -ℤ y ≡ c .c7))
+-- each bound is reached by a cell of the set: some cell of it meets the bound with equality
+pub record ReachedBy (A : Cells) (c : Octagon) : Type 0 where
+  pub reached0 : Some (λ x y. A x y × (negℤ y ≡ c .c0))
+  pub reached1 : Some (λ x y. A x y × (x -ℤ y ≡ c .c1))
+  pub reached2 : Some (λ x y. A x y × (x ≡ c .c2))
+  pub reached3 : Some (λ x y. A x y × (x +ℤ y ≡ c .c3))
+  pub reached4 : Some (λ x y. A x y × (y ≡ c .c4))
+  pub reached5 : Some (λ x y. A x y × (negℤ x +ℤ y ≡ c .c5))
+  pub reached6 : Some (λ x y. A x y × (negℤ x ≡ c .c6))
+  pub reached7 : Some (λ x y. A x y × (negℤ x -ℤ y ≡ c .c7))
+
+-- every bound is reached by a cell within the bounds
+abbrev pub Reached : Octagon → Type 0
+Reached c = ReachedBy (In c) c
 
 -- normalised bounds: the set has a cell, and each bound is reached
 pub record Normalised (c : Octagon) : Type 0 where
@@ -83,3 +91,10 @@ pub record Represents (a : Octagon) (A : Cells) : Type 0 where
   pub cells : In a ≐ A
   pub is-normalised : Normalised a
   pub on-the-map : In a ⊆ OnMap
+
+-- the octagon a is the smallest that holds the set A: it holds each cell of A, any eight bounds that hold A hold a, and each bound of a is
+-- reached by a cell of A
+pub record Smallest (a : Octagon) (A : Cells) : Type 0 where
+  pub holds : A ⊆ In a
+  pub least : (b : Octagon) → A ⊆ In b → In a ⊆ In b
+  pub reached : ReachedBy A a

@@ -1,4 +1,4 @@
--- What a call that may refuse hands back: a value, or one refusal number of document 01. Assumes nothing.
+-- What a call that may refuse hands back: a value, or one refusal number of the documents. Assumes nothing.
 use Prim.Native.Nat.{ℕ}
 
 pub data Outcome (A : Type 0) : Type 0 where

@@ -20,4 +20,12 @@ float-to-bits-print-hex c = is-number (c .before .before .before .args .x) (c .i
 pub metres-spec : {M : Type 1} → statement M
 metres-spec =
     tie.close
-    (tie.spec (λ c. search needs) (λ c κs. search needs) float-to-bits-print-hex (λ c κs. search needs) (λ c. search needs) (λ c. search needs))
+    (tie.spec
+    (λ c. search needs)
+    (λ c κs. search needs)
+    float-to-bits-print-hex
+    (λ c κs. search needs)
+    (λ c. search needs)
+    (λ c κs. search needs)
+    (λ c. search needs)
+    (λ c. search needs))

@@ -1,10 +1,10 @@
 -- `bounds_at` meets its contract: each bound fits 32 bits, so its sum and its cast keep it. Assumes nothing.
 use mathlib.Core.Path.{_≡_, refl, _∙_}
-use lib.IntN.{ℤ, pos, _+ℤ_, +ℤ-idl}
+use lib.IntN.{ℤ}
 use mir.Syntax.{w32, w64}
 use mir.Val.{SFits, toZ, ofZ}
 use mir.Facts.{toZ-ofZ}
-use Rattle.integers.proofs.Range.{signs, wide-fits}
+use Rattle.integers.proofs.Range.{signs, wide-fits, minus, negated, minus-both, negated-both}
 use Rattle.octagon.specs.Widths.{Held}
 use Rattle.octagon.proofs.Fields.{stored}
 use Rattle.outline.specs.declared.walk.Cell.{Cell}
@@ -53,20 +53,6 @@ kept f = toZ-ofZ (wide-fits f)
 cast : {z : ℤ} → SFits w32 z → SFits w32 (toZ w64 (ofZ w64 z))
 cast f = rw (kept f) f
 
--- a negated one is a difference from 0
-minus : {z : ℤ} → SFits w32 z → SFits w32 (pos 0 +ℤ z)
-minus f = rw +ℤ-idl f
-
-negated : {z : ℤ} → SFits w32 z → toZ w64 (ofZ w64 (pos 0 +ℤ z)) ≡ z
-negated {z} f = kept (minus f) ∙ +ℤ-idl z
-
--- and a difference may follow it
-minus-both : {y : ℤ} (z : ℤ) → SFits w32 y → SFits w32 (y +ℤ z) → SFits w32 (toZ w64 (ofZ w64 (pos 0 +ℤ y)) +ℤ z)
-minus-both z f g = rw (negated f) g
-
-negated-both : {y : ℤ} (z : ℤ) → SFits w32 y → SFits w32 (y +ℤ z) → toZ w64 (ofZ w64 (toZ w64 (ofZ w64 (pos 0 +ℤ y)) +ℤ z)) ≡ y +ℤ z
-negated-both z f g = rw (negated f) (kept g)
-
 -- ---- from a field that was read, back to the start
 
 abbrev at1 : tie.After-struct-told → tie.Start
@@ -101,8 +87,8 @@ unfolding bounds-at
 returns c =
     let s = at9 c in
     let h = fits s in
-    stored w32 h (negated (h .held0)) (kept (h .held1)) refl (kept (h .held3)) refl (kept (h .held5))
-    (negated (h .held6)) (negated-both _ (h .held6) (h .held7))
+    stored w32 h (negated (wide-fits (h .held0))) (kept (h .held1)) refl (kept (h .held3)) refl (kept (h .held5))
+    (negated (wide-fits (h .held6))) (negated-both _ (wide-fits (h .held6)) (wide-fits (h .held7)))
     ∙ same-bounds s
 
 pub bounds-at-spec : {M : Type 1} → statement M
@@ -123,6 +109,6 @@ bounds-at-spec =
     (λ c. wide-fits (minus (fits (at7 c) .held6)))
     (λ c. cast (minus (fits (at7 c) .held6)))
     (λ c. wide-fits (minus (fits (at8 c) .held6)))
-    (λ c. let h = fits (at9 c) in wide-fits (minus-both _ (h .held6) (h .held7)))
-    (λ c. let h = fits (at9 c) in cast (minus-both _ (h .held6) (h .held7)))
+    (λ c. let h = fits (at9 c) in minus-both _ (wide-fits (h .held6)) (wide-fits (h .held7)))
+    (λ c. let h = fits (at9 c) in rw (negated-both _ (wide-fits (h .held6)) (wide-fits (h .held7))) (h .held7))
     returns)
