@@ -1,20 +1,7 @@
-/* The calls on sheets of bindings/koxirmeta.h in plain C: the check by the same formulas, the listing by sprintf. */
-#include "plain.h"
+/* The check and the listing of a sheet in plain C: the check by the same formulas, the listing by sprintf. */
+#include "plain_bytes.h"
 #include <stdio.h>
 #include <string.h>
-
-static uint32_t u16_at(const uint8_t *s) { return (uint32_t)s[0] | (uint32_t)s[1] << 8; }
-
-static uint32_t u32_at(const uint8_t *s) { return u16_at(s) | u16_at(s + 2) << 16; }
-
-/* The refusal of an outline: it does not close, or a corner leaves the map. */
-static uint32_t trace(int64_t i, int64_t j, const uint32_t n[8]) {
-    int64_t n0 = n[0], n1 = n[1], n2 = n[2], n3 = n[3], n4 = n[4], n5 = n[5], n6 = n[6], n7 = n[7];
-    if (n0 + n1 + n7 != n3 + n4 + n5 || n1 + n2 + n3 != n5 + n6 + n7)
-        return NOT_CLOSED;
-    int64_t right = i + n0 + n1, top = j + n1 + n2 + n3, left = right - n3 - n4 - n5;
-    return -j > LIMIT || right > LIMIT || top > LIMIT || -left > LIMIT ? OFF_MAP : 0;
-}
 
 /* The bounds that the corners of an accepted outline reach. */
 static void draw(int32_t i, int32_t j, const uint32_t n[8], int32_t c[8]) {

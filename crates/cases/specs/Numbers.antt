@@ -16,7 +16,9 @@ use Rattle.morphology.specs.Operations.{opposed-rows, nothing-left}
 use Rattle.morphology.specs.Folds.{fold-limit, too-many-folds}
 use Rattle.decomposition.specs.Pieces.{outlines, piece-of}
 use Rattle.records.specs.Numbers.{bytes}
-use Rattle.sheet.specs.Layout.{sheet-limit, record-length, trailer-length, layout, letters, trailer-layout}
+use Rattle.sheet.specs.Layout.{layout, record-length}
+use Rattle.sheet.specs.Trailer.{trailer-length, letters, trailer-layout}
+use Rattle.sheet.specs.Sheets.{sheet-limit}
 use Rattle.sheet.specs.Answers.{bad-length, bad-trailer, bad-distance, bad-number, no-room, no-record}
 use Rattle.tape.specs.Snapping.{not-finite}
 use Rattle.tape.specs.Enclosing.{no-point, half-point}

@@ -4,7 +4,7 @@ use mathlib.Core.Path.{_≡_, refl}
 use mathlib.Core.Bool.{true, false}
 use mathlib.Core.List.{List, [], _∷_}
 use Prim.Native.Nat.{ℕ}
-use lib.IntN.{ℤ, pos, negsuc}
+use lib.IntN.{ℤ, negsuc}
 use lib.ListN.{replicate}
 use Rattle.integers.specs.Minimum.{minℤ, halfℤ}
 use Rattle.octagon.specs.Outcome.{accepted, refused}
@@ -16,10 +16,13 @@ use Rattle.outline.specs.Outlining.{outline-of, outlined}
 use Rattle.decomposition.specs.declared.Split.{Split}
 use Rattle.decomposition.specs.Splitting.{rest, triangles-of, with-rows, first-counts, is-crossed, with-k13, counts, split-of, decomposition}
 use Rattle.records.specs.Numbers.{signed, twos}
+use Rattle.records.specs.Parts.{splice}
 use Rattle.sheet.specs.declared.Record.{Record}
-use Rattle.sheet.specs.Layout.{encoded, decoded, trailer, trailer-at}
-use Rattle.sheet.specs.Checking.{stated, framed, judged, surveyed, checked, fetched, read}
-use Rattle.sheet.specs.Writing.{admitted, vetted, insertion, inserted, grown, after-insert}
+use Rattle.sheet.specs.Layout.{layout-of, encoded, decoded}
+use Rattle.sheet.specs.Trailer.{trailer, trailer-at}
+use Rattle.sheet.specs.Sheets.{plots-from, records-bytes, sheet-bytes}
+use Rattle.sheet.specs.Checking.{stated, framed, judged, surveyed, inspected, parsed, fetched, read}
+use Rattle.sheet.specs.Writing.{written-over, admitted, insertion, inserted, after-insert}
 use Rattle.koxirmeta_c.specs.Calls.{fitted, octagon-in}
 use Rattle.koxirmeta_c.specs.Outlines.{outline-in, start, sides-of}
 use Rattle.koxirmeta_c.specs.Splits.{holds-split, split-parts, splitting}
@@ -96,26 +99,26 @@ pub sheets : (after-inserting empty-sheet 19 70001 plot-start plot-sides ∷ aft
     ∷ after-inserting one-plot 43 513 plot-start thirteen ∷ after-inserting one-plot 43 513 other-start seven-sides ∷ after-inserting one-plot 43 513 one-number other-sides
     ∷ after-inserting one-plot 43 513 plot-start (4 ∷ 1 ∷ 14 ∷ 2 ∷ 5 ∷ 4 ∷ 6 ∷ 7 ∷ []) ∷ [])
     ≡ (one-plot ∷ two-plots ∷ one-plot ∷ one-plot ∷ one-plot ∷ one-plot ∷ [])
-unfolding plot outline-in after-insert insertion vetted admitted grown trailer checked framed stated trailer-at surveyed judged decoded encoded signed twos traced closes placed is-on-map drawn bounds-at vertex
+unfolding plot outline-in after-insert written-over sheet-bytes records-bytes splice insertion admitted trailer parsed inspected framed stated trailer-at plots-from surveyed judged layout-of decoded encoded signed twos traced closes placed is-on-map drawn bounds-at vertex
 sheets = refl
 
 -- and what it answers
 pub insertions : (inserting empty-sheet 19 70001 plot-start plot-sides ∷ inserting one-plot 43 513 other-start other-sides
     ∷ inserting one-plot 43 70001 plot-start plot-sides ∷ inserting one-plot 43 513 one-number other-sides ∷ inserting one-plot 43 513 other-start seven-sides ∷ [])
     ≡ (accepted 43 ∷ accepted 67 ∷ refused 11 ∷ refused 255 ∷ refused 255 ∷ [])
-unfolding fitted plot outline-in inserted insertion vetted admitted checked framed stated trailer-at surveyed judged decoded signed traced closes placed is-on-map drawn bounds-at vertex
+unfolding fitted plot outline-in inserted insertion admitted parsed inspected framed stated trailer-at plots-from surveyed judged layout-of decoded signed traced closes placed is-on-map drawn bounds-at vertex
 insertions = refl
 
 -- record 1 of two, and record 2, which there is not; and each slice of a wrong length
 pub fetches : (fetching two-plots 67 1 plot-start plot-sides ∷ fetching two-plots 67 2 plot-start plot-sides
     ∷ fetching two-plots 67 1 one-number plot-sides ∷ fetching two-plots 67 1 plot-start seven-sides ∷ [])
     ≡ (accepted numbered ∷ refused 13 ∷ refused 255 ∷ refused 255 ∷ [])
-unfolding fitted fetched checked framed stated trailer-at surveyed judged decoded signed traced closes placed is-on-map drawn bounds-at vertex
+unfolding fitted fetched parsed inspected framed stated trailer-at plots-from surveyed judged layout-of decoded signed traced closes placed is-on-map drawn bounds-at vertex
 fetches = refl
 
 -- the same of a sheet in which two records were counted, and one in which three were, which is too short for them
 pub readings : (reading two-plots 67 2 1 plot-start plot-sides ∷ reading two-plots 67 2 2 plot-start plot-sides ∷ reading two-plots 67 3 1 plot-start plot-sides
     ∷ reading two-plots 67 2 1 one-number plot-sides ∷ reading two-plots 67 2 1 plot-start seven-sides ∷ [])
     ≡ (accepted numbered ∷ refused 13 ∷ refused 10 ∷ refused 255 ∷ refused 255 ∷ [])
-unfolding fitted read decoded signed
+unfolding fitted read plots-from layout-of decoded signed
 readings = refl

@@ -2,7 +2,7 @@
 ghost use mathlib.Core.Path.{_≡_};
 ghost use Prim.Native.Nat.{_+_, _≤_};
 ghost use lib.ListN.{length};
-ghost use Rattle.sheet.specs.Layout.{«sheet-limit»};
+ghost use Rattle.sheet.specs.Sheets.{«sheet-limit»};
 ghost use Rattle.listing_io.specs.Transfers.{«bytes-read»};
 use crate::transfer::TRIES;
 use crate::transfer::Transfer;

@@ -34,6 +34,12 @@ drop-bytes zero s h = h
 drop-bytes (suc n) [] h = h
 drop-bytes (suc n) (b ∷ s) h = drop-bytes n s (tail-bytes b s h)
 
+pub take-bytes : (n : ℕ) (s : List ℕ) → AreBytes s → AreBytes (take n s)
+take-bytes zero s h i = omega arith
+take-bytes (suc n) [] h i = h i
+take-bytes (suc n) (b ∷ s) h zero = h 0
+take-bytes (suc n) (b ∷ s) h (suc i) = take-bytes n s (tail-bytes b s h) i
+
 -- w bytes hold a number below 256 ^ w
 pub number-take : (w : ℕ) (s : List ℕ) → AreBytes s → number (take w s) < 256 ^ w
 number-take zero s h = omega arith
@@ -80,12 +86,12 @@ byte-read (b ∷ s) (suc i) h =
 
 -- ---- two's complement
 
--- a number less 256 ^ w, as a negative one
-twos-less : (w v : ℕ) → v < 256 ^ suc w → pos v -ℤ pos (256 ^ suc w) ≡ negsuc (256 ^ suc w - suc v)
+-- a number less f, as a negative one
+less : (f v : ℕ) → v < f → pos v -ℤ pos f ≡ negsuc (f - suc v)
 unfolding up dn
-twos-less w v h =
-    let f : up (pos v -ℤ pos (256 ^ suc w)) + (0 + 256 ^ suc w) ≡ (v + 0) + dn (pos v -ℤ pos (256 ^ suc w)) = diff-parts (pos v) (pos (256 ^ suc w)) in
-    parts-eq (pos v -ℤ pos (256 ^ suc w)) (negsuc (256 ^ suc w - suc v)) (omega arith)
+less f v h =
+    let e : up (pos v -ℤ pos f) + (0 + f) ≡ (v + 0) + dn (pos v -ℤ pos f) = diff-parts (pos v) (pos f) in
+    parts-eq (pos v -ℤ pos f) (negsuc (f - suc v)) (omega arith)
 
 -- what w bytes stand for: the number in them or that less 256 ^ w, whichever lies from minus half of 256 ^ w up to below half of it
 -- (`mag z < h` says that z is from -h up to h - 1)
@@ -94,29 +100,27 @@ pub signed-is : (w v : ℕ) → v < 256 ^ suc w
 unfolding signed
 signed-is w v h =
     let e : 256 ^ suc w ≡ 256 ^ w * 256 = pow-suc 256 w in
-    cases (ltb v (256 ^ suc w / 2))
-    (λ b. rw b (inl refl, ltb-true v (256 ^ suc w / 2) b))
-    (λ b. let l = ltb-false v (256 ^ suc w / 2) b in rw b (inr refl, rw (twos-less w v h) (omega arith)))
+    cases (ltb (2 * v) (256 ^ suc w))
+    (λ b. let l = ltb-true (2 * v) (256 ^ suc w) b in rw b (inl refl, omega arith))
+    (λ b. let l = ltb-false (2 * v) (256 ^ suc w) b in rw b (inr refl, rw (less (256 ^ suc w) v h) (omega arith)))
 
 -- and there and back: a signed number whose magnitude is below half of what the bytes hold
-pub signed-twos : (w : ℕ) (z : ℤ) → mag z < 256 ^ suc w / 2 → signed (suc w) (twos (suc w) z) ≡ z
-unfolding signed twos up dn
-signed-twos w (pos n) h = rw (lt-ltb n (256 ^ suc w / 2) h)
+pub signed-twos : (w : ℕ) (z : ℤ) → mag z < 256 ^ w / 2 → signed w (twos w z) ≡ z
+unfolding signed twos
+signed-twos w (pos n) h = rw (lt-ltb (2 * n) (256 ^ w) (omega arith))
 signed-twos w (negsuc n) h =
-    let v = 256 ^ suc w - suc n in
-    let e : 256 ^ suc w ≡ 256 ^ w * 256 = pow-suc 256 w in
-    let f : up (pos v -ℤ pos (256 ^ suc w)) + (0 + 256 ^ suc w) ≡ (v + 0) + dn (pos v -ℤ pos (256 ^ suc w)) = diff-parts (pos v) (pos (256 ^ suc w)) in
-    rw (le-ltb v (256 ^ suc w / 2) (omega arith)) (parts-eq (pos v -ℤ pos (256 ^ suc w)) (negsuc n) (omega arith))
+    let v = 256 ^ w - suc n in
+    rw (le-ltb (2 * v) (256 ^ w) (omega arith)) (less (256 ^ w) v (omega arith) ∙ ap negsuc (omega arith))
 
-pub twos-below : (w : ℕ) (z : ℤ) → mag z < 256 ^ suc w / 2 → twos (suc w) z < 256 ^ suc w
+pub twos-below : (w : ℕ) (z : ℤ) → mag z < 256 ^ w / 2 → twos w z < 256 ^ w
 unfolding twos
 twos-below w (pos n) h = omega arith
-twos-below w (negsuc n) h = omega (arith, one-le-pow (suc w) 256 (omega arith))
+twos-below w (negsuc n) h = omega arith
 
 -- and a number of w bytes, read as signed
-pub twos-signed : (w v : ℕ) → v < 256 ^ suc w → twos (suc w) (signed (suc w) v) ≡ v
+pub twos-signed : (w v : ℕ) → v < 256 ^ w → twos w (signed w v) ≡ v
 unfolding signed twos
 twos-signed w v h =
-    cases (ltb v (256 ^ suc w / 2))
+    cases (ltb (2 * v) (256 ^ w))
     (λ b. rw b)
-    (λ b. rw (b, twos-less w v h) (omega arith))
+    (λ b. rw (b, less (256 ^ w) v h) (omega arith))

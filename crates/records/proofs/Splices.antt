@@ -7,7 +7,8 @@ use native.Mathlib.Nat.{add-zero, add-assoc}
 use native.Mathlib.Numerals.{add-one}
 use lib.ListN.{length, take, drop, set, length-append, length-drop, take-append-drop}
 use lib.Seq.{set-split, length-take-le, take-at, drop-at, take-append-le, take-take, drop-drop}
-use Rattle.records.specs.Parts.{splice}
+use Rattle.records.specs.Parts.{part, splice}
+use Rattle.records.proofs.Parts.{drop-take}
 
 pub splice-nil : (s : List ℕ) (at : ℕ) → splice s at [] ≡ s
 unfolding splice
@@ -17,17 +18,15 @@ pub length-splice : (s : List ℕ) (at : ℕ) (ys : List ℕ) → at + length ys
 unfolding splice
 length-splice s at ys h = simp (length-append, length-drop) (omega (arith, length-take-le at s (omega arith)))
 
--- what stands before and after the part
+-- what stands before the part
 pub take-splice : (s : List ℕ) (at : ℕ) (ys : List ℕ) (n : ℕ) → at ≤ length s → n ≤ at → take n (splice s at ys) ≡ take n s
 unfolding splice
 take-splice s at ys n h k =
     let m : length (take at s) ≡ at = length-take-le at s h in
     rw append-assoc (take-append-le n (take at s) (ys ++ drop (at + length ys) s) (omega arith) ∙ take-take n at s k)
 
-pub drop-splice : (s : List ℕ) (at : ℕ) (ys : List ℕ) → at + length ys ≤ length s → drop (at + length ys) (splice s at ys) ≡ drop (at + length ys) s
-unfolding splice
-drop-splice s at ys h =
-    drop-at (take at s ++ ys) (drop (at + length ys) s) (at + length ys) (length-append (take at s) ys ∙ ap (λ (x : ℕ). x + length ys) (length-take-le at s (omega arith)))
+pub part-before : (s : List ℕ) (at : ℕ) (ys : List ℕ) (p n : ℕ) → at ≤ length s → p + n ≤ at → part (splice s at ys) p n ≡ part s p n
+part-before s at ys p n h k = sym (drop-take p n (splice s at ys)) ∙ ap (drop p) (take-splice s at ys (p + n) h k) ∙ drop-take p n s
 
 -- two parts in a row are one
 pub splice-append : (s : List ℕ) (at : ℕ) (a b : List ℕ) → at + length a + length b ≤ length s → splice (splice s at a) (at + length a) b ≡ splice s at (a ++ b)
@@ -39,6 +38,24 @@ splice-append s at a b h =
     let d : drop (m + length b) (take at s ++ a ++ q) ≡ drop (m + length b) s =
     sym (drop-drop (length b) m (take at s ++ a ++ q)) ∙ ap (drop (length b)) (drop-at (take at s ++ a) q m n) ∙ drop-drop (length b) m s in
     rw (d, take-at (take at s ++ a) q m n, length-append a b, ← add-assoc at (length a) (length b)) (simp append-assoc)
+
+-- a part that is replaced before another, where this one begins
+pub splice-before : (s : List ℕ) (at : ℕ) (a b : List ℕ) → at + length a + length b ≤ length s → splice (splice s (at + length a) b) at a ≡ splice s at (a ++ b)
+unfolding splice
+splice-before s at a b h =
+    let m = at + length a in
+    let z = drop (m + length b) s in
+    let n : length (take m s) ≡ m = length-take-le m s (omega arith) in
+    let e : take at (take m s ++ (b ++ z)) ≡ take at s = take-append-le at (take m s) (b ++ z) (omega arith) ∙ take-take at m s (omega arith) in
+    let f : drop m (take m s ++ (b ++ z)) ≡ b ++ z = drop-at (take m s) (b ++ z) m n in
+    rw (append-assoc (take m s) b z, e, f, length-append a b, ← add-assoc at (length a) (length b)) (simp append-assoc)
+
+-- a part that is replaced by itself
+pub splice-same : (s : List ℕ) (at n : ℕ) → at + n ≤ length s → splice s at (part s at n) ≡ s
+unfolding splice
+splice-same s at n h =
+    let m : length (part s at n) ≡ n = length-take-le n (drop at s) (rw length-drop (omega arith)) in
+    rw (m, ← drop-drop n at s, append-assoc, take-append-drop, take-append-drop)
 
 pub splice-one : (s : List ℕ) (at x : ℕ) → at < length s → set s at x ≡ splice s at (x ∷ [])
 unfolding splice

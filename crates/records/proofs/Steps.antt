@@ -1,21 +1,21 @@
--- One turn of each loop that reads or writes numbers in bytes, on plain values. Assumes nothing.
+-- One turn of each loop that reads or writes numbers in bytes, or moves bytes, on plain values. Assumes nothing.
 use mathlib.Core.Path.{_≡_, sym, ap, _∙_}
 use mathlib.Core.Bool.{true}
-use mathlib.Core.List.{List, _++_}
+use mathlib.Core.List.{List, [], _∷_, _++_}
 use Prim.Native.Nat.{ℕ, zero, suc, _+_, _-_, _*_, _/_, _%_, _^_, _≤_, _<_}
 use native.Mathlib.Omega.{arith}
 use native.Mathlib.Nat.{pow-suc, pow-le-pow-right}
 use native.Mathlib.Numerals.{add-one}
 use lib.ListN.{length, take, drop, getD, set, length-drop}
-use lib.Seq.{drop-cons, drop-drop, take-suc-set, append-snoc}
+use lib.Seq.{drop-cons, drop-drop, getD-take, length-take-le, take-suc-set, append-snoc}
 use lib.Dec.{leb}
 use borrow.Author.Tests.{leb-true}
 use Rattle.integers.proofs.Tests.{both-true}
 use Rattle.records.specs.Numbers.{number, bytes, total-width, narrow, packed, unpacked}
 use Rattle.records.specs.Parts.{part, splice}
-use Rattle.records.proofs.Numbers.{number-suc, length-bytes}
+use Rattle.records.proofs.Numbers.{part-suc, number-suc, length-bytes}
 use Rattle.records.proofs.Fields.{length-packed}
-use Rattle.records.proofs.Splices.{splice-append, splice-cons}
+use Rattle.records.proofs.Splices.{length-splice, take-splice, splice-append, splice-before, splice-one, splice-cons}
 
 -- ---- a number, from its highest byte down
 
@@ -52,6 +52,22 @@ put-more s at zero v h k = absurd (omega arith)
 put-more s at (suc n) v h k =
     let e : suc n - 1 ≡ n = omega arith in
     rw e (splice-cons s at (v % 256) (bytes n (v / 256)) (omega (arith, length-bytes n (v / 256))))
+
+-- ---- bytes, moved up one by one from the last
+
+-- the n bytes from index p + 1 on stand from index q + 1 on, and the byte before them is moved
+pub move-more : (s : List ℕ) (p q n : ℕ) → p ≤ q → q + 1 + n ≤ length s
+    → set (splice s (q + 1) (part s (p + 1) n)) q (getD (splice s (q + 1) (part s (p + 1) n)) p 0) ≡ splice s q (part s p (n + 1))
+move-more s p q n h l =
+    let y = part s (p + 1) n in
+    let t = splice s (q + 1) y in
+    let x = getD s p 0 in
+    let m : length y ≡ n = length-take-le n (drop (p + 1) s) (rw length-drop (omega arith)) in
+    let w : length t ≡ length s = length-splice s (q + 1) y (omega arith) in
+    let v : getD t p 0 ≡ x =
+    sym (getD-take (p + 1) t p 0 (omega arith)) ∙ ap (λ (z : List ℕ). getD z p 0) (take-splice s (q + 1) y (p + 1) (omega arith) (omega arith)) ∙ getD-take (p + 1) s p 0 (omega arith) in
+    let e : part s p (n + 1) ≡ x ∷ y = rw (add-one n) (part-suc s p n (omega arith)) in
+    rw (v, e) (splice-one t q x (omega arith) ∙ splice-before s q (x ∷ []) y (omega arith))
 
 -- ---- fields, one after the other
 

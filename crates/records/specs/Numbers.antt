@@ -23,7 +23,7 @@ bytes (suc w) v = (v % 256) ∷ bytes w (v / 256)
 
 -- the signed number that v is in two's complement of w bytes, and the v that a signed number is
 unfoldable pub signed : ℕ → ℕ → ℤ
-signed w v = cond (ltb v (256 ^ w / 2)) (pos v) (pos v -ℤ pos (256 ^ w))
+signed w v = cond (ltb (2 * v) (256 ^ w)) (pos v) (pos v -ℤ pos (256 ^ w))
 
 unfoldable pub twos : ℕ → ℤ → ℕ
 twos w (pos n) = n

@@ -5,7 +5,9 @@ use Prim.Native.Nat.{ℕ}
 use lib.IntN.{pos, negsuc}
 use lib.ListN.{length}
 use Rattle.sheet.specs.declared.Record.{Record}
-use Rattle.sheet.specs.Layout.{encoded, decoded, trailer, trailer-at}
+use Rattle.sheet.specs.Layout.{layout, layout-of, encoded, decoded}
+use Rattle.sheet.specs.Trailer.{trailer, trailer-at}
+use Rattle.sheet.specs.Sheets.{plots-from}
 use Rattle.integers.specs.Minimum.{minℤ, halfℤ}
 use Rattle.octagon.specs.NormalForm.{even-bound, odd-bound, tight-even, tight-odd, normal-form, has-cell, is-on-map, placed, normalised}
 use Rattle.cell_count.specs.Area.{triangle, rectangle, cuts, area, cell-count}
@@ -14,12 +16,12 @@ use Rattle.outline.specs.Closing.{closes}
 use Rattle.outline.specs.Tracing.{bounds-at, drawn, traced}
 use Rattle.records.specs.Numbers.{signed, twos}
 use Rattle.records.specs.Rows.{joined}
-use Rattle.sheet.specs.Checking.{stated, framed, judged, surveyed, checked}
+use Rattle.sheet.specs.Checking.{stated, framed, judged, surveyed, inspected, parsed}
 use Rattle.records.specs.Text.{ascii}
 use Rattle.sheet.proofs.Computed.{seven, thirteenth}
 use Rattle.report.specs.Decimal.{decimal, signed-decimal}
 use Rattle.report.specs.Lines.{space, heading-line, row-line, last-line, refused-line}
-use Rattle.report.specs.Listing.{cell-number, plots, row-of, full, listing}
+use Rattle.report.specs.Listing.{cell-number, row-of, full, listing}
 use Rattle.report.specs.ReadBack.{divided}
 
 -- a plot whose numbers all differ, in 174 cells, and the whole map under the number v, in 32001 * 32001
@@ -34,9 +36,9 @@ whole v =
 -- of no plots, no bytes at all, a spoilt letter, and falling numbers
 sheets : List (List ℕ)
 sheets =
-    (1 ∷ 2 ∷ encoded seven ++ (encoded thirteenth ++ trailer 2)) ∷ (encoded uneven ++ trailer 1) ∷
-    (joined (map (λ v. encoded (whole v)) (1 ∷ 2 ∷ 3 ∷ 4 ∷ 5 ∷ [])) ++ trailer 5) ∷
-    trailer 0 ∷ [] ∷ (trailer 0 ++ (0 ∷ [])) ∷ (encoded thirteenth ++ (encoded seven ++ trailer 2)) ∷ []
+    (1 ∷ 2 ∷ encoded layout seven ++ (encoded layout thirteenth ++ trailer 24 2)) ∷ (encoded layout uneven ++ trailer 24 1) ∷
+    (joined (map (λ v. encoded layout (whole v)) (1 ∷ 2 ∷ 3 ∷ 4 ∷ 5 ∷ [])) ++ trailer 24 5) ∷
+    trailer 24 0 ∷ [] ∷ (trailer 24 0 ++ (0 ∷ [])) ∷ (encoded layout thirteenth ++ (encoded layout seven ++ trailer 24 2)) ∷ []
 
 texts : List (List ℕ)
 texts =
@@ -53,7 +55,7 @@ texts =
     ascii "plot i j n0 n1 n2 n3 n4 n5 n6 n7 cells\nplots 0 cells 0\n" ∷ ascii "refused 8\n" ∷ ascii "refused 9\n" ∷ ascii "refused 11\n" ∷ []
 
 listed : map (λ s. listing s (length s)) sheets ≡ texts
-unfolding sheets texts uneven whole encoded decoded trailer trailer-at checked framed stated surveyed judged twos signed traced drawn bounds-at vertex closes placed is-on-map cell-count normalised normal-form tight-even tight-odd even-bound odd-bound has-cell minℤ halfℤ area rectangle cuts triangle listing full plots row-of cell-number heading-line row-line last-line refused-line decimal signed-decimal
+unfolding sheets texts uneven whole encoded decoded layout-of trailer trailer-at plots-from parsed inspected framed stated surveyed judged twos signed traced drawn bounds-at vertex closes placed is-on-map cell-count normalised normal-form tight-even tight-odd even-bound odd-bound has-cell minℤ halfℤ area rectangle cuts triangle listing full row-of cell-number heading-line row-line last-line refused-line decimal signed-decimal
 listed = refl
 
 -- numbers at the ends of their ranges

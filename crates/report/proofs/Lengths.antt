@@ -1,31 +1,33 @@
 -- No line of a listing is longer than `line-limit`, and no listing is longer than `text-limit`. Assumes nothing.
 use mathlib.Core.Path.{_≡_, refl}
-use mathlib.Core.Bool.{Bool, true, false, cond}
-use mathlib.Core.List.{List, [], _∷_, _++_, map}
+use mathlib.Core.List.{List, [], _∷_, _++_}
 use Prim.Native.Nat.{ℕ, zero, suc, _+_, _*_, _^_, _≤_, _<_}
 use native.Mathlib.Omega.{arith}
-use lib.Dec.{ltb}
-use lib.IntN.{ℤ, pos, negsuc, subℕ, natAbs}
+use native.Mathlib.Nat.{pow-le-pow-right}
+use lib.IntN.{ℤ, pos, negsuc, natAbs}
 use lib.ListN.{length, getD, drop, length-append}
-use Rattle.integers.proofs.Parts.{up, dn, subℕ-parts}
+use mir.Syntax.{w32}
+use mir.Val.{SFits}
 use Rattle.octagon.specs.Outcome.{Outcome, accepted, refused}
 use Rattle.octagon.proofs.Outcomes.{refused-same, accepted-not-refused}
 use Rattle.records.specs.Numbers.{AreBytes, signed, unpacked}
 use Rattle.records.specs.Parts.{part}
-use Rattle.records.specs.Rows.{records}
 use Rattle.sheet.specs.declared.Record.{Record}
-use Rattle.sheet.specs.Layout.{record-length, layout, decoded}
-use Rattle.sheet.specs.Checking.{first, rows, checked}
-use Rattle.sheet.proofs.RecordBytes.{decoded-at, field-below}
-use Rattle.sheet.proofs.Checks.{checked-holds}
+use Rattle.sheet.specs.Layout.{record-length, layout-of, decoded}
+use Rattle.sheet.specs.Sheets.{plots-from, first}
+use Rattle.sheet.specs.Checking.{plots, checked}
+use Rattle.sheet.proofs.TwosComplement.{signed-fits}
+use Rattle.sheet.proofs.Layouts.{every-field, narrow-fields, within-length, decoded-at, field-below}
+use Rattle.sheet.proofs.Checks.{checked-plotted}
 use Rattle.sheet.specs.Cases.{Faulty, wrong-number, open-outline, off-outline, later, CheckCase, wrong-size, unmarked, misplaced, faulty, right}
 use Rattle.sheet.proofs.CheckCases.{check-case}
 use Rattle.records.specs.Text.{ascii}
 use Rattle.report.specs.Decimal.{decimal, sign, signed-decimal}
 use Rattle.report.specs.Lines.{spaced, line, heading-line, row-line, last-line, refused-line}
-use Rattle.report.specs.Listing.{cell-number, plots, row-of, rows-of, total-cells, full, text-of, listing, line-limit, text-limit}
+use Rattle.report.specs.Listing.{cell-number, row-of, rows-of, total-cells, full, listing, line-limit, text-limit}
 use Rattle.report.proofs.Decimals.{length-decimal}
-use Rattle.report.proofs.Plots.{length-plots, cells-most, total-cells-most}
+use Rattle.report.proofs.Plots.{cells-most, total-cells-most}
+use Rattle.report.proofs.Listings.{listing-refused, listing-accepted}
 
 -- ---- words and lines
 
@@ -75,34 +77,31 @@ record Small (r : Record) : Type 0 where
   n6 : r .outline .n6 < 2 ^ 64
   n7 : r .outline .n7 < 2 ^ 64
 
-far : (v : ℕ) (z : ℤ) → v < 65536 → up z + 65536 ≡ v + dn z → natAbs z < 2 ^ 63
-unfolding up dn
-far v (pos n) h e = omega arith
-far v (negsuc n) h e = omega arith
-
-start-small : (v : ℕ) → v < 65536 → natAbs (signed 2 v) < 2 ^ 63
-unfolding signed
-start-small v h = go (ltb v 32768)
+start-small : (w v : ℕ) → w ≤ 4 → v < 256 ^ w → natAbs (signed w v) < 2 ^ 63
+start-small w v n h = near (signed w v) (signed-fits w v n h)
   where
-    go : (b : Bool) → natAbs (cond b (pos v) (subℕ v 65536)) < 2 ^ 63
-    go true = omega arith
-    go false = far v (subℕ v 65536) h (subℕ-parts v 65536)
+    near : (z : ℤ) → SFits w32 z → natAbs z < 2 ^ 63
+    near (pos n) f = omega (arith, f .sfits)
+    near (negsuc n) f = omega (arith, f .sfits)
 
-small : (s : List ℕ) (at : ℕ) → AreBytes s → Small (decoded (part s at record-length))
-small s at b =
-    let below : (k : ℕ) → k < length layout → getD (unpacked layout (drop at s)) k 0 < 256 ^ getD layout k 0 = λ k. field-below s at k b in
-    rw (decoded-at s at) record {
-      number = omega (arith, below 0 (omega arith));
-      i = start-small _ (below 1 (omega arith));
-      j = start-small _ (below 2 (omega arith));
-      n0 = omega (arith, below 3 (omega arith));
-      n1 = omega (arith, below 4 (omega arith));
-      n2 = omega (arith, below 5 (omega arith));
-      n3 = omega (arith, below 6 (omega arith));
-      n4 = omega (arith, below 7 (omega arith));
-      n5 = omega (arith, below 8 (omega arith));
-      n6 = omega (arith, below 9 (omega arith));
-      n7 = omega (arith, below 10 (omega arith));
+small : (L : ℕ) (s : List ℕ) (at : ℕ) → AreBytes s → Small (decoded (layout-of L) (part s at L))
+small L s at b =
+    let ws = layout-of L in
+    let below : (k : ℕ) → k < 11 → getD (unpacked ws (drop at s)) k 0 < 256 ^ getD ws k 0 = λ k h. field-below ws s at k b (omega (arith, every-field L)) in
+    let most : (k : ℕ) → k < 11 → getD (unpacked ws (drop at s)) k 0 < 2 ^ 64 =
+    λ k h. omega (arith, below k h, pow-le-pow-right {n = 256} (omega arith) {i = getD ws k 0} {j = 4} (narrow-fields L k)) in
+    rw (decoded-at ws s at L (within-length L)) record {
+      number = most 0 (omega arith);
+      i = start-small _ _ (narrow-fields L 1) (below 1 (omega arith));
+      j = start-small _ _ (narrow-fields L 2) (below 2 (omega arith));
+      n0 = most 3 (omega arith);
+      n1 = most 4 (omega arith);
+      n2 = most 5 (omega arith);
+      n3 = most 6 (omega arith);
+      n4 = most 7 (omega arith);
+      n5 = most 8 (omega arith);
+      n6 = most 9 (omega arith);
+      n7 = most 10 (omega arith);
     }
 
 row-length : (r : Record) → Small r → length (row-of r) ≤ line-limit
@@ -115,16 +114,12 @@ row-length r h =
     (numbers (o .n4) (h .n4) (numbers (o .n5) (h .n5) (numbers (o .n6) (h .n6) (numbers (o .n7) (h .n7)
     (numbers (cell-number o) (omega (arith, cells-most o)) none)))))))))))
 
-rows-length : (s : List ℕ) (at n : ℕ) → AreBytes s → length (rows-of (map decoded (records record-length s at n))) ≤ line-limit * n
-rows-length s at zero b = omega arith
-rows-length s at (suc n) b =
-    let r = decoded (part s at record-length) in
-    omega (
-      arith,
-      length-append (row-of r) (rows-of (map decoded (records record-length s (at + record-length) n))),
-      row-length r (small s at b),
-      rows-length s (at + record-length) n b,
-    )
+rows-length : (L : ℕ) (s : List ℕ) (at n : ℕ) → AreBytes s → length (rows-of (plots-from L s at n)) ≤ line-limit * n
+unfolding plots-from
+rows-length L s at zero b = omega arith
+rows-length L s at (suc n) b =
+    let r = decoded (layout-of L) (part s at L) in
+    omega (arith, length-append (row-of r) (rows-of (plots-from L s (at + L) n)), row-length r (small L s at b), rows-length L s (at + L) n b)
 
 -- ---- the other lines, and the listing
 
@@ -138,7 +133,7 @@ unfolding refused-line
 refused-length k h = omega (arith, line-length (ascii "refused") (omega arith) (numbers k h none))
 
 -- a check gives no number above 11
-fault-small : {before e : ℕ} {bs : List (List ℕ)} → Faulty before bs e → e ≤ 11
+fault-small : {before e : ℕ} {rs : List Record} → Faulty before rs e → e ≤ 11
 fault-small (wrong-number h) = omega arith
 fault-small (open-outline h f) = omega arith
 fault-small (off-outline h k f) = omega arith
@@ -151,24 +146,24 @@ refusal-small e (misplaced z m h) q = omega (arith, refused-same q)
 refusal-small e (faulty f h) q = omega (arith, refused-same q, fault-small h)
 refusal-small e (right f g) q = absurd (accepted-not-refused q)
 
-full-length : (s : List ℕ) (len c : ℕ) → AreBytes s → checked s len ≡ accepted c → length (full (plots s len c)) ≤ text-limit
-unfolding full plots heading-line
+full-length : (s : List ℕ) (len c : ℕ) → AreBytes s → checked s len ≡ accepted c → length (full (plots s len)) ≤ text-limit
+unfolding full heading-line
 full-length s len c b e =
-    let k = checked-holds s len c e in
-    let rs = map decoded (rows s len c) in
-    let n = length-plots s len c in
+    let p = checked-plotted s len c e in
+    let k = p .holds in
+    let n = p .many in
+    let rs = plots s len in
+    let r : length (rows-of rs) ≤ line-limit * c = rw (p .are) (rows-length record-length s (first len (record-length * c)) c b) in
     omega (
       arith,
       length-append heading-line (rows-of rs ++ last-line (length rs) (total-cells rs)),
       length-append (rows-of rs) (last-line (length rs) (total-cells rs)),
-      rows-length s (first len c) c b,
       last-length (length rs) (total-cells rs) (omega arith) (omega (arith, total-cells-most rs)),
     )
 
 pub listing-fits : (s : List ℕ) (len : ℕ) → AreBytes s → length (listing s len) ≤ text-limit
-unfolding listing
 listing-fits s len b = go (checked s len) refl
   where
-    go : (o : Outcome ℕ) → checked s len ≡ o → length (text-of s len o) ≤ text-limit
-    go (accepted c) e = full-length s len c b e
-    go (refused k) e = omega (arith, refused-length k (omega (arith, refusal-small k (check-case s len) e)))
+    go : (o : Outcome ℕ) → checked s len ≡ o → length (listing s len) ≤ text-limit
+    go (accepted c) e = rw (listing-accepted s len c e) (full-length s len c b e)
+    go (refused k) e = rw (listing-refused s len k e) (omega (arith, refused-length k (omega (arith, refusal-small k (check-case s len) e))))

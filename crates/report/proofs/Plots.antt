@@ -1,10 +1,10 @@
 -- The plots of a checked sheet: the fetched records, their cells, and their rows one after the other. Assumes nothing.
-use mathlib.Core.Path.{_≡_, refl, sym, ap, _∙_}
+use mathlib.Core.Path.{_≡_, refl, _∙_}
 use mathlib.Core.List.{List, [], _∷_, _++_}
-use Prim.Native.Nat.{ℕ, _+_, _*_, _^_, _≤_, _<_}
+use Prim.Native.Nat.{ℕ, zero, suc, _+_, _*_, _^_, _≤_, _<_}
 use native.Mathlib.Omega.{arith}
 use native.Mathlib.Numerals.{add-one}
-use lib.ListN.{length, getD, drop, drop-of-length-le, length-map, List·getD-map}
+use lib.ListN.{length, getD, drop, drop-of-length-le}
 use lib.Seq.{drop-cons}
 use Rattle.octagon.specs.declared.Octagon.{Octagon}
 use Rattle.octagon.specs.Outcome.{Outcome, accepted, refused, then}
@@ -12,28 +12,34 @@ use Rattle.cell_count.specs.Area.{cell-count}
 use Rattle.cell_count.proofs.Counted.{count-accepted, area-fits}
 use Rattle.outline.specs.declared.Outline.{Outline}
 use Rattle.outline.specs.Tracing.{traced}
-use Rattle.records.proofs.Rows.{length-records}
 use Rattle.sheet.specs.declared.Record.{Record}
-use Rattle.sheet.specs.Layout.{record-length, decoded}
-use Rattle.sheet.specs.Checking.{first, rows, checked, fetched}
-use Rattle.sheet.proofs.Checks.{fetched-row}
+use Rattle.sheet.specs.Layout.{record-from}
+use Rattle.sheet.specs.Order.{nth}
+use Rattle.sheet.specs.Checking.{plots, checked, fetched}
+use Rattle.sheet.proofs.Checks.{checked-plotted}
 use Rattle.report.specs.Lines.{row-line, Put}
-use Rattle.report.specs.Listing.{or-nought, cell-number, plots, row-of, rows-of, total-cells}
+use Rattle.report.specs.Listing.{or-nought, cell-number, row-of, rows-of, total-cells}
 use Rattle.report.proofs.Writing.{ToPut, to-put-more, to-put-room}
 
 -- ---- the records
 
--- plot k, where there is one
+-- a record without numbers, and plot k, where there is one
+abbrev pub blank : Record
+blank = record-from [] []
+
 abbrev pub plot : List Record → ℕ → Record
-plot rs k = getD rs k (decoded [])
+plot rs k = getD rs k blank
 
-pub length-plots : (s : List ℕ) (len c : ℕ) → length (plots s len c) ≡ c
-unfolding plots
-length-plots s len c = length-map (rows s len c) decoded ∙ length-records record-length s (first len c) c
+pub nth-plot : (rs : List Record) (k : ℕ) → k < length rs → nth rs k ≡ accepted (plot rs k)
+nth-plot [] k h = absurd (omega arith)
+nth-plot (r ∷ rs) zero h = refl
+nth-plot (r ∷ rs) (suc k) h = nth-plot rs k (omega arith)
 
-pub fetched-plot : (s : List ℕ) (len c k : ℕ) → checked s len ≡ accepted c → k < c → fetched s len k ≡ accepted (plot (plots s len c) k)
-unfolding plots
-fetched-plot s len c k e h = fetched-row s len c k e h ∙ ap accepted (sym (List·getD-map decoded (rows s len c) k []))
+pub plots-counted : (s : List ℕ) (len c : ℕ) → checked s len ≡ accepted c → length (plots s len) ≡ c
+plots-counted s len c e = checked-plotted s len c e .many
+
+pub plot-fetched : (s : List ℕ) (len c k : ℕ) → checked s len ≡ accepted c → k < c → fetched s len k ≡ accepted (plot (plots s len) k)
+plot-fetched s len c k e h = let p = checked-plotted s len c e in p .fetch k ∙ nth-plot (plots s len) k (omega (arith, p .many))
 
 -- ---- the cells
 
@@ -64,7 +70,7 @@ rest rs k = rows-of (drop k rs)
 module _ (rs : List Record) (k : ℕ) (h : k < length rs) (r : Record) (e : r ≡ plot rs k) (n : ℕ) (f : n ≡ cell-number (r .outline)) where
   rest-more : rest rs k ≡ row-line r n ++ rest rs (k + 1)
   unfolding row-of
-  rest-more = rw (drop-cons rs k (decoded []) h, add-one k, f, e)
+  rest-more = rw (drop-cons rs k blank h, add-one k, f, e)
 
   pub row-room : {s w t : List ℕ} {at m : ℕ} → ToPut s at w t m (rest rs k) → m + length (row-line r n) ≤ length t
   row-room l = to-put-room (row-line r n) (rest rs (k + 1)) (rw rest-more at l)
@@ -73,7 +79,7 @@ module _ (rs : List Record) (k : ℕ) (h : k < length rs) (r : Record) (e : r �
   row-more l p = to-put-more (row-line r n) (rest rs (k + 1)) (rw rest-more at l) p
 
   pub total-cells-more : total-cells (drop k rs) ≡ n + total-cells (drop (k + 1) rs)
-  total-cells-more = rw (drop-cons rs k (decoded []) h, add-one k, f, e)
+  total-cells-more = rw (drop-cons rs k blank h, add-one k, f, e)
 
 -- none is left
 pub rest-end : (rs : List Record) (k : ℕ) → length rs ≤ k → rest rs k ≡ []

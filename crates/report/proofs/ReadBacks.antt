@@ -11,13 +11,12 @@ use lib.Seq.{getD-append-add, getD-at}
 use Rattle.octagon.specs.Outcome.{accepted, refused}
 use Rattle.cell_count.specs.Count.{sum}
 use Rattle.sheet.specs.declared.Record.{Record}
-use Rattle.sheet.specs.Layout.{decoded}
-use Rattle.sheet.specs.Checking.{checked}
+use Rattle.sheet.specs.Checking.{plots, checked}
 use Rattle.report.specs.Lines.{newline, heading-line, last-line}
-use Rattle.report.specs.Listing.{cell-number, plots, row-of, rows-of, total-cells, listing}
+use Rattle.report.specs.Listing.{cell-number, row-of, rows-of, total-cells, listing}
 use Rattle.report.specs.ReadBack.{divided, line-of, column-names, ReadBack, RefusedBack}
 use Rattle.report.proofs.Decimals.{integer-signed-decimal}
-use Rattle.report.proofs.Plots.{plot, length-plots, fetched-plot}
+use Rattle.report.proofs.Plots.{blank, plot, plots-counted, plot-fetched}
 use Rattle.report.proofs.Listings.{listing-refused, listing-lines, plot-counted}
 use Rattle.report.proofs.Divisions.{tested-above, divided-first}
 use Rattle.report.proofs.LinesRead.{map-at, is-number, row-lined, row-read, last-lined, last-read, refusal-lined}
@@ -34,8 +33,8 @@ unfolding sum
 cells-summed [] = refl
 cells-summed (r ∷ rs) = omega (arith, cells-summed rs, sum-later (length rs) (λ k. cell-number (plot (r ∷ rs) k .outline)))
 
-plots-summed : (s : List ℕ) (len c : ℕ) → let rs = plots s len c in total-cells rs ≡ sum c (λ k. cell-number (plot rs k .outline))
-plots-summed s len c = rw (length-plots s len c) at (cells-summed (plots s len c))
+plots-summed : (s : List ℕ) (len c : ℕ) → checked s len ≡ accepted c → let rs = plots s len in total-cells rs ≡ sum c (λ k. cell-number (plot rs k .outline))
+plots-summed s len c e = rw (plots-counted s len c e) at (cells-summed (plots s len))
 
 -- ---- the lines
 
@@ -44,7 +43,7 @@ plot-text : Record → List ℕ
 plot-text r = row-lined r (cell-number (r .outline)) .unended
 
 last-text : List ℕ → ℕ → ℕ → List ℕ
-last-text s len c = last-lined c (total-cells (plots s len c)) .unended
+last-text s len c = last-lined c (total-cells (plots s len)) .unended
 
 rows-divided : (rs : List Record) (t : List ℕ) → divided newline (rows-of rs ++ t) ≡ map plot-text rs ++ divided newline t
 unfolding plot-text row-of
@@ -61,45 +60,45 @@ getD-past : {A : Type 0} (l : List A) (y z d : A) (n : ℕ) → length l ≡ n �
 getD-past l y z d n e = rw (add-one (length l), e) at (getD-append-add l (y ∷ z ∷ []) 1 d)
 
 module _ (s : List ℕ) (len c : ℕ) (e : checked s len ≡ accepted c) where
-  listing-divided : divided newline (listing s len) ≡ column-names ∷ map plot-text (plots s len c) ++ (last-text s len c ∷ [] ∷ [])
+  listing-divided : divided newline (listing s len) ≡ column-names ∷ map plot-text (plots s len) ++ (last-text s len c ∷ [] ∷ [])
   unfolding last-text
   listing-divided =
-      let rs = plots s len c in
+      let rs = plots s len in
       let l = last-line c (total-cells rs) in
       rw (listing-lines s len c e, heading-divided (rows-of rs ++ l), rows-divided rs l, last-lined c (total-cells rs) .alone)
 
-  many : length (map plot-text (plots s len c)) ≡ c
-  many = length-map (plots s len c) plot-text ∙ length-plots s len c
+  many : length (map plot-text (plots s len)) ≡ c
+  many = length-map (plots s len) plot-text ∙ plots-counted s len c e
 
   line-number : length (divided newline (listing s len)) ≡ c + 3
-  line-number = rw listing-divided (omega (arith, length-append (map plot-text (plots s len c)) (last-text s len c ∷ [] ∷ []), many))
+  line-number = rw listing-divided (omega (arith, length-append (map plot-text (plots s len)) (last-text s len c ∷ [] ∷ []), many))
 
-  row-at : (k : ℕ) → k < c → line-of (listing s len) (k + 1) ≡ plot-text (plot (plots s len c) k)
+  row-at : (k : ℕ) → k < c → line-of (listing s len) (k + 1) ≡ plot-text (plot (plots s len) k)
   row-at k h =
-      rw (listing-divided, add-one k, List·getD-append (map plot-text (plots s len c)) _ [] k (omega (arith, many)))
-      (map-at plot-text (plots s len c) k (decoded []) (omega (arith, length-plots s len c)))
+      rw (listing-divided, add-one k, List·getD-append (map plot-text (plots s len)) _ [] k (omega (arith, many)))
+      (map-at plot-text (plots s len) k blank (omega (arith, plots-counted s len c e)))
 
   last-at : line-of (listing s len) (c + 1) ≡ last-text s len c
-  last-at = rw (listing-divided, add-one c) (getD-at (map plot-text (plots s len c)) _ _ [] c many)
+  last-at = rw (listing-divided, add-one c) (getD-at (map plot-text (plots s len)) _ _ [] c many)
 
   end-at : line-of (listing s len) (c + 2) ≡ []
-  end-at = rw (listing-divided, add-two c) (getD-past (map plot-text (plots s len c)) _ [] [] c many)
+  end-at = rw (listing-divided, add-two c) (getD-past (map plot-text (plots s len)) _ [] [] c many)
 
 -- ---- the theorems
 
 pub listing-read-back : (s : List ℕ) (len c : ℕ) → checked s len ≡ accepted c → ReadBack s len c (listing s len)
 unfolding plot-text last-text
 listing-read-back s len c e =
-    let rs = plots s len c in
+    let rs = plots s len in
     record {
       plot-at = plot rs;
       cells-at = λ k. cell-number (plot rs k .outline);
-      are-fetched = λ k h. fetched-plot s len c k e h;
+      are-fetched = λ k h. plot-fetched s len c k e h;
       are-counted = λ k h. plot-counted s len c k e h;
       line-count = line-number s len c e;
       first-line = rw (listing-divided s len c e);
       plot-rows = λ k h. rw (row-at s len c e k h) (row-read (plot rs k) (cell-number (plot rs k .outline)));
-      final-line = rw (last-at s len c e, ← plots-summed s len c) (last-read c (total-cells rs));
+      final-line = rw (last-at s len c e, ← plots-summed s len c e) (last-read c (total-cells rs));
       ending = end-at s len c e;
     }
 

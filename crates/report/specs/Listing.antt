@@ -8,8 +8,10 @@ use Rattle.outline.specs.declared.Outline.{Outline}
 use Rattle.outline.specs.Tracing.{traced}
 use Rattle.records.specs.Rows.{joined}
 use Rattle.sheet.specs.declared.Record.{Record}
-use Rattle.sheet.specs.Layout.{sheet-limit, record-length, trailer-length, decoded}
-use Rattle.sheet.specs.Checking.{rows, checked}
+use Rattle.sheet.specs.Layout.{record-length}
+use Rattle.sheet.specs.Trailer.{trailer-length}
+use Rattle.sheet.specs.Sheets.{sheet-limit, Sheet}
+use Rattle.sheet.specs.Checking.{parsed}
 use Rattle.report.specs.Lines.{heading-line, row-line, last-line, refused-line}
 
 -- a count, and 0 for a refusal
@@ -20,10 +22,6 @@ or-nought (refused k) = 0
 -- the number of cells inside an outline. No outline of a checked sheet is refused.
 unfoldable pub cell-number : Outline → ℕ
 cell-number o = or-nought (then (traced o) cell-count)
-
--- the plots of a checked sheet with c records
-unfoldable pub plots : List ℕ → ℕ → ℕ → List Record
-plots s len c = map decoded (rows s len c)
 
 -- the row of a plot, and the rows of plots
 unfoldable pub row-of : Record → List ℕ
@@ -41,14 +39,14 @@ total-cells (r ∷ rs) = cell-number (r .outline) + total-cells rs
 unfoldable pub full : List Record → List ℕ
 full rs = heading-line ++ (rows-of rs ++ last-line (length rs) (total-cells rs))
 
--- what is written for the answer of a check
-abbrev pub text-of : List ℕ → ℕ → Outcome ℕ → List ℕ
-text-of s len (accepted c) = full (plots s len c)
-text-of s len (refused k) = refused-line k
+-- what is written for a sheet, or for its refusal
+abbrev pub text-of : Outcome Sheet → List ℕ
+text-of (accepted z) = full (z .plots)
+text-of (refused k) = refused-line k
 
 -- the listing of the sheet in the first len bytes of s
 unfoldable pub listing : List ℕ → ℕ → List ℕ
-listing s len = text-of s len (checked s len)
+listing s len = text-of (parsed s len)
 
 -- ---- how long a listing can be
 

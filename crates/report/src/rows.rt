@@ -3,9 +3,9 @@ ghost use mathlib.Core.Path.{_≡_};
 ghost use Prim.Native.Nat.{_+_, _≤_};
 ghost use lib.ListN.{length};
 ghost use Rattle.octagon.specs.Outcome.{accepted};
-ghost use Rattle.sheet.specs.Checking.{checked};
+ghost use Rattle.sheet.specs.Checking.{checked, plots};
 ghost use Rattle.report.specs.Lines.{Put};
-ghost use Rattle.report.specs.Listing.{«cell-number», plots, «rows-of», «total-cells», full};
+ghost use Rattle.report.specs.Listing.{«cell-number», «rows-of», «total-cells», full};
 use crate::lines::put_heading;
 use crate::lines::put_last;
 use crate::lines::put_row;
@@ -36,9 +36,9 @@ fn cells(o: Outline) -> u32
 // The rows of the c plots of a checked sheet.
 fn put_rows(sheet: &[u8], len: usize, c: u32, text: &mut [u8], at: usize) -> Rows
     requires { ⌜ checked (now sheet) len ≡ accepted c ⌝ }
-    requires { ⌜ at + length («rows-of» (plots (now sheet) len c)) ≤ length (now text) ⌝ }
-    ensures { λ r. ⌜ Put (now (text .entry)) at («rows-of» (plots (now (sheet .entry)) len c)) (now (text .exit)) (r .next) ⌝ }
-    ensures { λ r. ⌜ r .cells ≡ «total-cells» (plots (now (sheet .entry)) len c) ⌝ }
+    requires { ⌜ at + length («rows-of» (plots (now sheet) len)) ≤ length (now text) ⌝ }
+    ensures { λ r. ⌜ Put (now (text .entry)) at («rows-of» (plots (now (sheet .entry)) len)) (now (text .exit)) (r .next) ⌝ }
+    ensures { λ r. ⌜ r .cells ≡ «total-cells» (plots (now (sheet .entry)) len) ⌝ }
 {
     let mut next = at;
     let mut sum: u64 = 0;
@@ -58,8 +58,8 @@ fn put_rows(sheet: &[u8], len: usize, c: u32, text: &mut [u8], at: usize) -> Row
 // The whole listing of a checked sheet.
 pub fn put_all(sheet: &[u8], len: usize, c: u32, text: &mut [u8]) -> usize
     requires { ⌜ checked (now sheet) len ≡ accepted c ⌝ }
-    requires { ⌜ length (full (plots (now sheet) len c)) ≤ length (now text) ⌝ }
-    ensures { λ r. ⌜ Put (now (text .entry)) 0 (full (plots (now (sheet .entry)) len c)) (now (text .exit)) r ⌝ }
+    requires { ⌜ length (full (plots (now sheet) len)) ≤ length (now text) ⌝ }
+    ensures { λ r. ⌜ Put (now (text .entry)) 0 (full (plots (now (sheet .entry)) len)) (now (text .exit)) r ⌝ }
 {
     let first = put_heading(text, 0);
     let rows = put_rows(sheet, len, c, text, first);

@@ -1,5 +1,5 @@
 -- Check a sheet: each answer is given exactly where its case of specs/Cases.antt holds (`check-exactly`). Assumes nothing.
-use mathlib.Core.Path.{_≡_, refl, sym, _∙_}
+use mathlib.Core.Path.{_≡_, refl, sym, ap, _∙_}
 use mathlib.Core.Logic.{_↔_}
 use mathlib.Core.List.{List, [], _∷_}
 use Prim.Native.Nat.{ℕ, _-_, _<_}
@@ -10,76 +10,82 @@ use Rattle.octagon.specs.declared.Octagon.{Octagon}
 use Rattle.octagon.specs.Outcome.{Outcome, accepted, refused, then}
 use Rattle.outline.specs.Tracing.{traced}
 use Rattle.outline.proofs.Tracings.{Tracing, is-octagon, is-open, is-off, tracing, refused-not-closed, refused-off-map}
-use Rattle.records.specs.Rows.{key, Ascending, none, more}
-use Rattle.sheet.specs.Layout.{trailer-length, trailer-at, decoded}
-use Rattle.sheet.specs.Checking.{is-bad-length, has-bad-marks, is-bad-distance, rows, judged, surveyed, checked}
-use Rattle.sheet.specs.Cases.{GoodFrame, HasOctagon, Faulty, wrong-number, open-outline, off-outline, later, CheckCase, wrong-size, unmarked, misplaced, faulty, right}
+use Rattle.sheet.specs.declared.Record.{Record}
+use Rattle.sheet.specs.declared.trailer.Trailer.{Trailer}
+use Rattle.sheet.specs.Trailer.{trailer-length, trailer-at}
+use Rattle.sheet.specs.Order.{Ascending, last, next}
+use Rattle.sheet.specs.Checking.{is-bad-length, has-bad-marks, is-bad-distance, judged, surveyed, inspected, checked}
+use Rattle.sheet.specs.Cases.{GoodFrame, stated-plots, HasOctagon, Faulty, wrong-number, open-outline, off-outline, later, CheckCase, wrong-size, unmarked, misplaced, faulty, right}
 use Rattle.sheet.proofs.Frames.{good-length, passes-length, good-marks, passes-marks, good-distance, passes-distance, framed-when}
 use Rattle.sheet.proofs.Surveys.{judged-when, surveyed-when}
-use Rattle.sheet.proofs.Checks.{length-refused, marks-refused, distance-refused, checked-rows}
+use Rattle.sheet.proofs.Checks.{length-refused, marks-refused, distance-refused, inspected-records, parsed-refused, checked-refused, checked-trailer}
 
 -- ---- the records
 
 -- each answer of a survey, with what it says of the records
-pub data SurveyCase (c before : ℕ) (bs : List (List ℕ)) : Outcome ℕ → Type 0 where
-  all-good : Ascending HasOctagon before bs → SurveyCase c before bs (accepted c)
-  one-faulty : {e : ℕ} → Faulty before bs e → SurveyCase c before bs (refused e)
+pub data SurveyCase {A : Type 0} (a : A) (before : ℕ) (rs : List Record) : Outcome A → Type 0 where
+  all-good : Ascending HasOctagon before rs → SurveyCase a before rs (accepted a)
+  one-faulty : {e : ℕ} → Faulty before rs e → SurveyCase a before rs (refused e)
 
-pub survey-case : (c before : ℕ) (bs : List (List ℕ)) → SurveyCase c before bs (surveyed c before bs)
+pub survey-case : {A : Type 0} (a : A) (before : ℕ) (rs : List Record) → SurveyCase a before rs (surveyed a before rs)
 unfolding surveyed judged
-survey-case c before [] = all-good none
-survey-case c before (b ∷ bs) =
-    cases (ltb before (key b))
-    (λ h. rw h (traces (ltb-true before (key b) h) (survey-case c (key b) bs) (tracing (decoded b .outline)) refl))
-    (λ h. rw h (one-faulty (wrong-number (ltb-false before (key b) h))))
+survey-case a before [] = all-good last
+survey-case {A} a before (r ∷ rs) =
+    cases (ltb before (r .number))
+    (λ h. rw h (traces (ltb-true before (r .number) h) (survey-case a (r .number) rs) (tracing (r .outline)) refl))
+    (λ h. rw h (one-faulty (wrong-number (ltb-false before (r .number) h))))
   where
-    on : {t : Outcome ℕ} → before < key b → HasOctagon b → SurveyCase c (key b) bs t → SurveyCase c before (b ∷ bs) t
-    on l q (all-good g) = all-good (more l q g)
+    on : {t : Outcome A} → before < r .number → HasOctagon r → SurveyCase a (r .number) rs t → SurveyCase a before (r ∷ rs) t
+    on l q (all-good g) = all-good (next l q g)
     on l q (one-faulty f) = one-faulty (later l q f)
 
-    traces : before < key b → SurveyCase c (key b) bs (surveyed c (key b) bs) → {o : Outcome Octagon} → Tracing (decoded b .outline) o → traced (decoded b .outline) ≡ o
-        → SurveyCase c before (b ∷ bs) (then (then o (λ _. accepted (key b))) (λ v. surveyed c v bs))
-    traces l r (is-octagon a _ _ _ _) q = on l (a, q) r
-    traces l r (is-open f) q = one-faulty (open-outline l f)
-    traces l r (is-off k f) q = one-faulty (off-outline l k f)
+    traces : before < r .number → SurveyCase a (r .number) rs (surveyed a (r .number) rs) → {o : Outcome Octagon} → Tracing (r .outline) o → traced (r .outline) ≡ o
+        → SurveyCase a before (r ∷ rs) (then (then o (λ _. accepted (r .number))) (λ v. surveyed a v rs))
+    traces l i (is-octagon o _ _ _ _) q = on l (o, q) i
+    traces l i (is-open f) q = one-faulty (open-outline l f)
+    traces l i (is-off k f) q = one-faulty (off-outline l k f)
 
 -- a record that is refused decides the survey
-surveyed-faulty : (c : ℕ) {before e : ℕ} {bs : List (List ℕ)} → Faulty before bs e → surveyed c before bs ≡ refused e
+surveyed-faulty : {A : Type 0} (a : A) {before e : ℕ} {rs : List Record} → Faulty before rs e → surveyed a before rs ≡ refused e
 unfolding surveyed judged
-surveyed-faulty c (wrong-number {before = v} {b = b} h) = rw (le-ltb v (key b) h)
-surveyed-faulty c (open-outline {before = v} {b = b} h f) = rw (lt-ltb v (key b) h, refused-not-closed (decoded b .outline) .1 f)
-surveyed-faulty c (off-outline {before = v} {b = b} h k f) = rw (lt-ltb v (key b) h, refused-off-map (decoded b .outline) .1 (k, f))
-surveyed-faulty c (later {before = v} {b = b} h t f) = rw (judged-when v b h t) (surveyed-faulty c f)
+surveyed-faulty a (wrong-number {before = v} {r = r} h) = rw (le-ltb v (r .number) h)
+surveyed-faulty a (open-outline {before = v} {r = r} h f) = rw (lt-ltb v (r .number) h, refused-not-closed (r .outline) .1 f)
+surveyed-faulty a (off-outline {before = v} {r = r} h k f) = rw (lt-ltb v (r .number) h, refused-off-map (r .outline) .1 (k, f))
+surveyed-faulty a (later {before = v} {r = r} h t f) = rw (judged-when v r h t) (surveyed-faulty a f)
 
 -- ---- the sheet
 
--- one of them holds of any buffer and any length
-pub check-case : (s : List ℕ) (len : ℕ) → CheckCase s len (checked s len)
-check-case s len =
-    let z = trailer-at s (len - trailer-length) in
-    cases (is-bad-length s len)
-    (λ a. rw (length-refused s len a) (wrong-size (λ h. true-is-not-false (sym a ∙ passes-length s len h))))
-    (λ a. cases (has-bad-marks z)
-    (λ b. rw (marks-refused s len a b) (unmarked (good-length s len a) (λ h. true-is-not-false (sym b ∙ passes-marks z h))))
-    (λ b. cases (is-bad-distance len z)
-    (λ d. rw (distance-refused s len a b d) (misplaced (good-length s len a) (good-marks z b) (λ h. true-is-not-false (sym d ∙ passes-distance len z h))))
-    (λ d. let f : GoodFrame s len (z .count) = record { size = good-length s len a; marks = good-marks z b; distance = good-distance len z d; count = refl } in
-    rw (checked-rows s len (framed-when s len (z .count) f)) (on f (survey-case (z .count) 0 (rows s len (z .count)))))))
-  where
-    on : {c : ℕ} {t : Outcome ℕ} → GoodFrame s len c → SurveyCase c 0 (rows s len c) t → CheckCase s len t
-    on f (all-good g) = right f g
-    on f (one-faulty h) = faulty f h
+module _ (s : List ℕ) (len : ℕ) where
+  refuses : {e : ℕ} → inspected s len ≡ refused e → checked s len ≡ refused e
+  refuses q = checked-refused s len (parsed-refused s len q)
 
--- and each answer is given exactly where its case holds
-pub check-exactly : (s : List ℕ) (len : ℕ) (o : Outcome ℕ) → (checked s len ≡ o) ↔ CheckCase s len o
-check-exactly s len o = (λ e. rw e at (check-case s len), given)
-  where
-    given : {o : Outcome ℕ} → CheckCase s len o → checked s len ≡ o
-    given (wrong-size h) =
-        cases (is-bad-length s len) (length-refused s len) (λ a. absurd (h (good-length s len a)))
-    given (unmarked z h) =
-        cases (has-bad-marks (trailer-at s (len - trailer-length))) (marks-refused s len (passes-length s len z)) (λ a. absurd (h (good-marks _ a)))
-    given (misplaced z m h) =
-        cases (is-bad-distance len (trailer-at s (len - trailer-length))) (distance-refused s len (passes-length s len z) (passes-marks _ m)) (λ a. absurd (h (good-distance len _ a)))
-    given (faulty {c = c} f h) = checked-rows s len (framed-when s len c f) ∙ surveyed-faulty c h
-    given (right {c = c} f g) = checked-rows s len (framed-when s len c f) ∙ surveyed-when c g
+  -- one of them holds of any buffer and any length
+  pub check-case : CheckCase s len (checked s len)
+  check-case =
+      let z = trailer-at s (len - trailer-length) in
+      cases (is-bad-length s len)
+      (λ a. rw (refuses (length-refused s len a)) (wrong-size (λ h. true-is-not-false (sym a ∙ passes-length s len h))))
+      (λ a. cases (has-bad-marks z)
+      (λ b. rw (refuses (marks-refused s len a b)) (unmarked (good-length s len a) (λ h. true-is-not-false (sym b ∙ passes-marks z h))))
+      (λ b. cases (is-bad-distance len z)
+      (λ d. rw (refuses (distance-refused s len a b d)) (misplaced (good-length s len a) (good-marks z b) (λ h. true-is-not-false (sym d ∙ passes-distance len z h))))
+      (λ d. let f : GoodFrame s len (z .count) = record { size = good-length s len a; marks = good-marks z b; distance = good-distance len z d; count = refl } in
+      on f (inspected-records s len (framed-when s len (z .count) f)) (survey-case z 0 (stated-plots s len)))))
+    where
+      on : {c : ℕ} {t : Outcome Trailer} → GoodFrame s len c → inspected s len ≡ t → SurveyCase (trailer-at s (len - trailer-length)) 0 (stated-plots s len) t → CheckCase s len (checked s len)
+      on f q (all-good g) = rw (checked-trailer s len q) (right (record { size = f .size; marks = f .marks; distance = f .distance; count = refl }) g)
+      on f q (one-faulty h) = rw (refuses q) (faulty f h)
+
+  -- and each answer is given exactly where its case holds
+  pub check-exactly : (o : Outcome ℕ) → (checked s len ≡ o) ↔ CheckCase s len o
+  check-exactly o = (λ e. rw e at check-case, given)
+    where
+      given : {o : Outcome ℕ} → CheckCase s len o → checked s len ≡ o
+      given (wrong-size h) =
+          refuses (cases (is-bad-length s len) (length-refused s len) (λ a. absurd (h (good-length s len a))))
+      given (unmarked z h) =
+          refuses (cases (has-bad-marks (trailer-at s (len - trailer-length))) (marks-refused s len (passes-length s len z)) (λ a. absurd (h (good-marks _ a))))
+      given (misplaced z m h) =
+          refuses (cases (is-bad-distance len (trailer-at s (len - trailer-length))) (distance-refused s len (passes-length s len z) (passes-marks _ m)) (λ a. absurd (h (good-distance len _ a))))
+      given (faulty {c = c} f h) = refuses (inspected-records s len (framed-when s len c f) ∙ surveyed-faulty _ h)
+      given (right {c = c} f g) = checked-trailer s len (inspected-records s len (framed-when s len c f) ∙ surveyed-when _ g) ∙ ap accepted (f .count)

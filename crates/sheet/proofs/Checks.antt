@@ -1,73 +1,154 @@
--- The check of a sheet from its frame and its records, and what `fetch` answers after it. Assumes nothing.
+-- The check of a sheet from its frame and its records, what the sheet then says, and what `fetch` answers of it. Assumes nothing.
 use mathlib.Core.Path.{_≡_, sym, ap, _∙_}
 use mathlib.Core.Bool.{true, false}
-use mathlib.Core.List.{List, []}
-use Prim.Native.Nat.{ℕ, _-_, _≤_, _<_}
-use lib.ListN.{getD}
-use borrow.Author.Tests.{lt-ltb, le-ltb}
+use mathlib.Core.List.{List}
+use Prim.Native.Nat.{ℕ, _-_, _*_}
+use lib.ListN.{length}
 use Rattle.octagon.specs.Outcome.{accepted, refused}
-use Rattle.octagon.proofs.Outcomes.{then-accepted}
-use Rattle.records.specs.Rows.{Ascending}
-use Rattle.sheet.specs.Layout.{trailer-length, trailer-at, decoded}
-use Rattle.sheet.specs.Answers.{bad-length, bad-trailer, bad-distance, no-record}
-use Rattle.sheet.specs.Checking.{is-bad-length, has-bad-marks, is-bad-distance, stated, framed, HoldsRecords, rows, surveyed, checked, fetched}
-use Rattle.sheet.specs.Cases.{HasOctagon}
-use Rattle.sheet.proofs.Frames.{framed-holds}
+use Rattle.octagon.proofs.Outcomes.{then-accepted, map-accepted}
+use Rattle.sheet.specs.declared.Record.{Record}
+use Rattle.sheet.specs.declared.trailer.Trailer.{Trailer}
+use Rattle.sheet.specs.Answers.{bad-length, bad-trailer, bad-distance}
+use Rattle.sheet.specs.Layout.{record-length}
+use Rattle.sheet.specs.Trailer.{trailer-length, trailer-at}
+use Rattle.sheet.specs.Order.{nth, Ascending}
+use Rattle.sheet.specs.Sheets.{Sheet, plots-from, first, sheet-of}
+use Rattle.sheet.specs.Checking.{is-bad-length, has-bad-marks, is-bad-distance, stated, framed, surveyed, inspected, parsed, plots, checked, fetched, HoldsRecords}
+use Rattle.sheet.specs.Cases.{GoodFrame, stated-plots, HasOctagon}
+use Rattle.sheet.proofs.Plots.{length-plots}
+use Rattle.sheet.proofs.Frames.{Framing, framing, framed-good, framed-when}
 use Rattle.sheet.proofs.Surveys.{surveyed-when, surveyed-passed}
 
 -- ---- the frame first, and then the records
 
-pub checked-frame : {k : ℕ} (s : List ℕ) (len : ℕ) → framed s len ≡ refused k → checked s len ≡ refused k
-unfolding checked
-checked-frame s len e = rw e
+pub inspected-frame : {k : ℕ} (s : List ℕ) (len : ℕ) → framed s len ≡ refused k → inspected s len ≡ refused k
+unfolding inspected
+inspected-frame s len e = rw e
 
-pub checked-rows : {c : ℕ} (s : List ℕ) (len : ℕ) → framed s len ≡ accepted c → checked s len ≡ surveyed c 0 (rows s len c)
-unfolding checked
-checked-rows s len e = rw e
+pub inspected-records : {z : Trailer} (s : List ℕ) (len : ℕ) → framed s len ≡ accepted z → inspected s len ≡ surveyed z 0 (sheet-of s len z .plots)
+unfolding inspected
+inspected-records s len e = rw e
 
 -- the refusals of the frame, from its tests
 module _ (s : List ℕ) (len : ℕ) where
-  pub length-refused : is-bad-length s len ≡ true → checked s len ≡ refused bad-length
+  pub length-refused : is-bad-length s len ≡ true → inspected s len ≡ refused bad-length
   unfolding framed
-  length-refused a = checked-frame s len (rw a)
+  length-refused a = inspected-frame s len (rw a)
 
-  pub marks-refused : is-bad-length s len ≡ false → has-bad-marks (trailer-at s (len - trailer-length)) ≡ true → checked s len ≡ refused bad-trailer
+  pub marks-refused : is-bad-length s len ≡ false → has-bad-marks (trailer-at s (len - trailer-length)) ≡ true → inspected s len ≡ refused bad-trailer
   unfolding framed stated
-  marks-refused a b = checked-frame s len (rw (a, b))
+  marks-refused a b = inspected-frame s len (rw (a, b))
 
   pub distance-refused : is-bad-length s len ≡ false → has-bad-marks (trailer-at s (len - trailer-length)) ≡ false
-      → is-bad-distance len (trailer-at s (len - trailer-length)) ≡ true → checked s len ≡ refused bad-distance
+      → is-bad-distance len (trailer-at s (len - trailer-length)) ≡ true → inspected s len ≡ refused bad-distance
   unfolding framed stated
-  distance-refused a b d = checked-frame s len (rw (a, b, d))
+  distance-refused a b d = inspected-frame s len (rw (a, b, d))
 
--- an accepted check has an accepted frame and good records, and the other way round
-pub record Good (s : List ℕ) (len c : ℕ) : Type 0 where
-  pub frame : framed s len ≡ accepted c
-  pub records : Ascending HasOctagon 0 (rows s len c)
+-- ---- a sheet that is right
 
-pub checked-when : (s : List ℕ) (len c : ℕ) → Good s len c → checked s len ≡ accepted c
-checked-when s len c g = checked-rows s len (g .frame) ∙ surveyed-when c (g .records)
+-- an accepted sheet has an accepted frame and good records, and the other way round
+pub record Good (s : List ℕ) (len : ℕ) (z : Trailer) : Type 0 where
+  pub is-trailer : z ≡ trailer-at s (len - trailer-length)
+  pub good-frame : GoodFrame s len (z .count)
+  pub framing : Framing s len z
+  pub ascending : Ascending HasOctagon 0 (sheet-of s len z .plots)
 
-pub checked-good : (s : List ℕ) (len c : ℕ) → checked s len ≡ accepted c → Good s len c
-unfolding checked
-checked-good s len c e =
-    let t = then-accepted (framed s len) (λ n. surveyed n 0 (rows s len n)) c e in
-    let p = surveyed-passed (t .between) c 0 (rows s len (t .between)) (t .second) in
-    record { frame = t .first ∙ ap accepted (sym (p .1)); records = rw (← p .1) at (p .0) }
+pub inspected-good : (s : List ℕ) (len : ℕ) (z : Trailer) → inspected s len ≡ accepted z → Good s len z
+unfolding inspected
+inspected-good s len z e =
+    let t = then-accepted (framed s len) (λ y. surveyed y 0 (sheet-of s len y .plots)) z e in
+    let p = surveyed-passed (t .between) z 0 (sheet-of s len (t .between) .plots) (t .second) in
+    let f : framed s len ≡ accepted z = t .first ∙ ap accepted (sym (p .1)) in
+    let g = framed-good s len z f in
+    record { is-trailer = g .1; good-frame = g .0; framing = framing s len z f; ascending = rw (← p .1) at (p .0) }
 
-pub checked-holds : (s : List ℕ) (len c : ℕ) → checked s len ≡ accepted c → HoldsRecords s len c
-checked-holds s len c e = framed-holds s len c (checked-good s len c e .frame)
+-- its records are document 01's, before the trailer
+pub known-plots : (s : List ℕ) (len c : ℕ) (z : Trailer) → Good s len z → z .count ≡ c → sheet-of s len z .plots ≡ plots-from record-length s (first len (record-length * c)) c
+known-plots s len c z g e = rw (g .framing .known, g .framing .distance-is, e)
 
--- ---- fetching
+pub inspected-when : (s : List ℕ) (len c : ℕ) → GoodFrame s len c → Ascending HasOctagon 0 (stated-plots s len) → inspected s len ≡ accepted (trailer-at s (len - trailer-length))
+inspected-when s len c f g = inspected-records s len (framed-when s len c f) ∙ surveyed-when _ g
 
-pub fetched-refused : {e : ℕ} (s : List ℕ) (len k : ℕ) → checked s len ≡ refused e → fetched s len k ≡ refused e
-unfolding fetched
-fetched-refused s len k q = rw q
+-- ---- what it says
 
-pub fetched-none : (s : List ℕ) (len c k : ℕ) → checked s len ≡ accepted c → c ≤ k → fetched s len k ≡ refused no-record
-unfolding fetched
-fetched-none s len c k q h = rw (q, le-ltb k c h)
+module _ (s : List ℕ) (len : ℕ) where
+  pub parsed-refused : {e : ℕ} → inspected s len ≡ refused e → parsed s len ≡ refused e
+  unfolding parsed
+  parsed-refused q = rw q
 
-pub fetched-row : (s : List ℕ) (len c k : ℕ) → checked s len ≡ accepted c → k < c → fetched s len k ≡ accepted (decoded (getD (rows s len c) k []))
-unfolding fetched
-fetched-row s len c k q h = rw (q, lt-ltb k c h)
+  pub parsed-sheet : {z : Trailer} → inspected s len ≡ accepted z → parsed s len ≡ accepted (sheet-of s len z)
+  unfolding parsed
+  parsed-sheet q = rw q
+
+  pub parsed-inspected : (y : Sheet) → parsed s len ≡ accepted y → (z : Trailer) × (inspected s len ≡ accepted z) × (sheet-of s len z ≡ y)
+  unfolding parsed
+  parsed-inspected y e = map-accepted (inspected s len) (sheet-of s len) y e
+
+  pub checked-refused : {e : ℕ} → parsed s len ≡ refused e → checked s len ≡ refused e
+  unfolding checked
+  checked-refused q = rw q
+
+  pub checked-count : {y : Sheet} → parsed s len ≡ accepted y → checked s len ≡ accepted (length (y .plots))
+  unfolding checked
+  checked-count q = rw q
+
+  pub checked-trailer : {z : Trailer} → inspected s len ≡ accepted z → checked s len ≡ accepted (z .count)
+  checked-trailer {z} q = checked-count (parsed-sheet q) ∙ ap accepted (length-plots (z .length) s (first len (z .distance)) (z .count))
+
+  -- a check that counts c
+  pub record Counted (c : ℕ) : Type 0 where
+    pub trailer : Trailer
+    pub is-inspected : inspected s len ≡ accepted trailer
+    pub count-is : trailer .count ≡ c
+
+  pub checked-counted : (c : ℕ) → checked s len ≡ accepted c → Counted c
+  unfolding checked
+  checked-counted c e =
+      let m = map-accepted (parsed s len) (λ (y : Sheet). length (y .plots)) c e in
+      let i = parsed-inspected (m .0) (m .1) in
+      let z = i .0 in
+      record {
+        trailer = z;
+        is-inspected = i .1;
+        count-is = sym (length-plots (z .length) s (first len (z .distance)) (z .count)) ∙ ap (λ (y : Sheet). length (y .plots)) (i .2) ∙ m .2;
+      }
+
+  -- ---- fetching
+
+  pub fetched-refused : {e : ℕ} (k : ℕ) → parsed s len ≡ refused e → fetched s len k ≡ refused e
+  unfolding fetched
+  fetched-refused k q = rw q
+
+  pub fetched-plot : {y : Sheet} (k : ℕ) → parsed s len ≡ accepted y → fetched s len k ≡ nth (y .plots) k
+  unfolding fetched
+  fetched-plot k q = rw q
+
+-- ---- its records
+
+pub parsed-plots : {y : Sheet} (s : List ℕ) (len : ℕ) → parsed s len ≡ accepted y → plots s len ≡ y .plots
+unfolding plots
+parsed-plots s len q = rw q
+
+-- those of a sheet in which a check counts c
+pub record Plotted (s : List ℕ) (len c : ℕ) : Type 0 where
+  pub many : length (plots s len) ≡ c
+  pub are : plots s len ≡ plots-from record-length s (first len (record-length * c)) c
+  pub ascending : Ascending HasOctagon 0 (plots s len)
+  pub holds : HoldsRecords s len (record-length * c)
+  pub fetch : (k : ℕ) → fetched s len k ≡ nth (plots s len) k
+
+pub checked-plotted : (s : List ℕ) (len c : ℕ) → checked s len ≡ accepted c → Plotted s len c
+checked-plotted s len c e =
+    let d = checked-counted s len c e in
+    let z = d .trailer in
+    let g = inspected-good s len z (d .is-inspected) in
+    let p = parsed-sheet s len (d .is-inspected) in
+    let q = parsed-plots s len p in
+    let k = q ∙ known-plots s len c z g (d .count-is) in
+    record {
+      many = ap length k ∙ length-plots record-length s (first len (record-length * c)) c;
+      are = k;
+      ascending = rw q (g .ascending);
+      holds = rw (g .framing .distance-is, d .count-is) at (g .framing .holds);
+      fetch = λ k. fetched-plot s len k p ∙ ap (λ (rs : List Record). nth rs k) (sym q);
+    }

@@ -1,147 +1,122 @@
--- The sheet that an accepted insert leaves, record by record (`insert-accepted`), and the order of records that are fetched
--- (`fetched-ascending`). Assumes nothing.
-use mathlib.Core.Path.{_≡_, refl, sym, ap, _∙_}
-use mathlib.Core.List.{List, [], _++_, append-assoc}
-use Prim.Native.Nat.{ℕ, suc, _+_, _-_, _^_, _≤_, _<_}
+-- A refused insert leaves every byte (`insert-refused`), and an accepted one the sheet with one record more (`insert-accepted`); the order
+-- of records that are fetched (`fetched-ascending`). Assumes nothing.
+use mathlib.Core.Path.{_≡_, sym, ap, subst, _∙_}
+use mathlib.Core.List.{List}
+use Prim.Native.Nat.{ℕ, suc, _+_, _-_, _*_, _^_, _<_}
 use native.Mathlib.Omega.{arith}
-use lib.ListN.{length, take, drop, getD, length-append, length-drop}
-use lib.Seq.{take-at, drop-at}
-use lib.Dec.{ltb}
-use borrow.Author.Tests.{ltb-true, ltb-false}
-use Rattle.integers.proofs.Tests.{cases}
-use Rattle.octagon.specs.Outcome.{accepted}
-use Rattle.octagon.proofs.Outcomes.{accepted-same, accepted-not-refused, map-accepted}
+use lib.ListN.{length, take}
+use lib.Seq.{length-take-le}
+use Rattle.octagon.specs.Outcome.{accepted, refused}
+use Rattle.octagon.proofs.Outcomes.{then-accepted, map-accepted, map-refused}
+use Rattle.outline.specs.Tracing.{traced}
+use Rattle.records.specs.Numbers.{AreBytes}
 use Rattle.records.specs.Parts.{part}
-use Rattle.records.specs.Rows.{joined, key-width, key, rank, put-in-order}
-use Rattle.records.proofs.Rows.{length-records, length-joined, rank-le, mul-more}
-use Rattle.records.proofs.Order.{put-in-order-before, put-in-order-here, put-in-order-after, ascending-step}
 use Rattle.sheet.specs.declared.Record.{Record}
-use Rattle.sheet.specs.Layout.{record-length, trailer-length, trailer, encoded, decoded}
+use Rattle.sheet.specs.declared.trailer.Trailer.{Trailer}
+use Rattle.sheet.specs.Layout.{number-width, record-length, layout-of, Fits}
+use Rattle.sheet.specs.Trailer.{trailer-length}
 use Rattle.sheet.specs.Bytes.{TrailerOf}
-use Rattle.sheet.specs.Checking.{first, rows, checked, fetched}
-use Rattle.sheet.specs.Writing.{insertion, inserted, after-insert, GrownSheet}
-use Rattle.sheet.proofs.RecordBytes.{decoded-encoded, key-decoded}
-use Rattle.sheet.proofs.Checks.{checked-when, checked-good, fetched-row, fetched-none}
-use Rattle.sheet.proofs.TrailerBytes.{length-trailer}
-use Rattle.sheet.proofs.Sheets.{sheet, sheet-good, sheet-trailer, sheet-rows}
-use Rattle.sheet.proofs.Insertion.{Taken, insertion-taken, insert-leaves, new-fits, new-front, new-each, new-count, new-length, new-ascending}
+use Rattle.sheet.specs.Order.{nth, All, rank}
+use Rattle.sheet.specs.Sheets.{Sheet, first, sheet-of, sheet-length}
+use Rattle.sheet.specs.Checking.{inspected, parsed, checked, fetched}
+use Rattle.sheet.specs.Cases.{HasOctagon}
+use Rattle.sheet.specs.Writing.{written-over, written-length, with-plot, admitted, insertion, inserted, after-insert, GrownSheet}
+use Rattle.sheet.proofs.Outlines.{accepted-fits}
+use Rattle.sheet.proofs.Order.{length-put-in-order, ascending-put-in-order, all-put-in-order, ascending-step, put-in-order-before, put-in-order-here, put-in-order-after}
+use Rattle.sheet.proofs.Plots.{length-plots, plots-fit}
+use Rattle.sheet.proofs.Checks.{Good, inspected-good, parsed-sheet, parsed-inspected, checked-count, checked-trailer, checked-plotted, fetched-plot}
+use Rattle.sheet.proofs.Overwritten.{over-parsed, over-trailer, over-heading, over-past, over-length}
+use Rattle.sheet.proofs.Inserts.{Admitted, admitted-passed, longer}
 
-module _ (s : List ℕ) (len : ℕ) (r : Record) (c : ℕ) (n : r .number < 256 ^ key-width) (t : Taken s len r c) where
-  -- the new records and the new sheet
-  abbrev new-rows : List (List ℕ)
-  new-rows = put-in-order (encoded r) (rows s len c)
+-- "A refused call alters nothing it was lent": every byte is as it was
+pub insert-refused : (s : List ℕ) (len : ℕ) (r : Record) (k : ℕ) → inserted s len r ≡ refused k → after-insert s len r ≡ s
+unfolding inserted after-insert
+insert-refused s len r k e = rw (map-refused (insertion s len r) written-length k .0 e)
 
-  abbrev new-sheet : List ℕ
-  new-sheet = sheet (take (first len c) s) new-rows (c + 1) (drop (len + record-length) s)
+-- ---- what is accepted
 
-  new-checks : checked new-sheet (len + record-length) ≡ accepted (c + 1)
-  new-checks =
-      checked-when new-sheet (len + record-length) (c + 1)
-      (sheet-good (take (first len c) s) new-rows (c + 1) (drop (len + record-length) s) (len + record-length)
-      (new-each s len r c n t) (new-count s len r c n t) (new-length s len r c n t) (t .admitted .short) (new-ascending s len r c n t))
+-- the outline, the sheet and the record are, and the sheet with the record is what is written
+record Taken (s : List ℕ) (len : ℕ) (r : Record) (y : Sheet) : Type 0 where
+  pub octagon : HasOctagon r
+  pub trailer : Trailer
+  pub is-inspected : inspected s len ≡ accepted trailer
+  pub admission : Admitted s r (sheet-of s len trailer)
+  pub sheet-is : y ≡ with-plot r (sheet-of s len trailer)
 
-  new-trailer : TrailerOf (c + 1) (part new-sheet (len + record-length - trailer-length) trailer-length)
-  new-trailer =
-      sheet-trailer (take (first len c) s) new-rows (c + 1) (drop (len + record-length) s) (len + record-length)
-      (new-each s len r c n t) (new-count s len r c n t) (new-length s len r c n t) (t .admitted .short)
+insertion-taken : (s : List ℕ) (len : ℕ) (r : Record) (y : Sheet) → insertion s len r ≡ accepted y → Taken s len r y
+unfolding insertion
+insertion-taken s len r y e =
+    let t = then-accepted (traced (r .outline)) _ y e in
+    let u = then-accepted (parsed s len) (admitted s r) y (t .second) in
+    let p = parsed-inspected s len (u .between) (u .first) in
+    let a = admitted-passed s r (sheet-of s len (p .0)) y (rw (← p .2) at (u .second)) in
+    record { octagon = (t .between, t .first); trailer = p .0; is-inspected = p .1; admission = a .0; sheet-is = a .1 }
 
-  rows-are : rows new-sheet (len + record-length) (c + 1) ≡ new-rows
-  rows-are =
-      sheet-rows (take (first len c) s) new-rows (c + 1) (drop (len + record-length) s) (len + record-length)
-      (new-each s len r c n t) (new-count s len r c n t) (new-length s len r c n t)
+module _ (s : List ℕ) (len : ℕ) (r : Record) (z : Trailer) (b : AreBytes s) (v : r .number < 256 ^ number-width) (o : HasOctagon r)
+    (e : inspected s len ≡ accepted z) (a : Admitted s r (sheet-of s len z)) where
+  abbrev old : List Record
+  old = sheet-of s len z .plots
 
-  -- record k of the new sheet
-  new-row : (k : ℕ) → k < c + 1 → fetched new-sheet (len + record-length) k ≡ accepted (decoded (getD new-rows k []))
-  new-row k h =
-      fetched-row new-sheet (len + record-length) (c + 1) k new-checks h
-      ∙ ap (λ (x : List (List ℕ)). accepted (decoded (getD x k []))) rows-are
+  abbrev new : Sheet
+  new = with-plot r (sheet-of s len z)
 
-  rank-in : rank (key (encoded r)) (rows s len c) ≤ c
-  rank-in = omega (arith, rank-le (key (encoded r)) (rows s len c), length-records record-length s (first len c) c)
+  good : Good s len z
+  good = inspected-good s len z e
 
-  new-before : (k : ℕ) → k < rank (key (encoded r)) (rows s len c) → fetched new-sheet (len + record-length) k ≡ fetched s len k
-  new-before k h =
-      let i = rank-in in
-      new-row k (omega arith)
-      ∙ ap (λ (x : List ℕ). accepted (decoded x)) (put-in-order-before (encoded r) (rows s len c) k h)
-      ∙ sym (fetched-row s len c k (t .sheet-is) (omega arith))
+  new-fits : All (Fits (layout-of record-length)) (new .plots)
+  new-fits =
+      all-put-in-order r (accepted-fits r (o .0) v (o .1)) (plots-fit (z .length) s (first len (z .distance)) (z .count) 0 b (good .ascending))
 
-  new-here : fetched new-sheet (len + record-length) (rank (key (encoded r)) (rows s len c)) ≡ accepted r
-  new-here =
-      let i = rank-in in
-      new-row (rank (key (encoded r)) (rows s len c)) (omega arith)
-      ∙ ap (λ (x : List ℕ). accepted (decoded x)) (put-in-order-here (encoded r) (rows s len c))
-      ∙ ap accepted (decoded-encoded r n (new-fits s len r c n t))
+  new-parsed : parsed (written-over s new) (sheet-length record-length new) ≡ accepted new
+  new-parsed = over-parsed s new (a .short) new-fits (ascending-put-in-order r (a .above) o (a .new) (good .ascending))
 
-  new-after : (k : ℕ) → rank (key (encoded r)) (rows s len c) ≤ k → fetched new-sheet (len + record-length) (suc k) ≡ fetched s len k
-  new-after k h =
-      cases (ltb k c)
-      (λ b. let l = ltb-true k c b in
-      new-row (suc k) (omega arith)
-      ∙ ap (λ (x : List ℕ). accepted (decoded x)) (put-in-order-after (encoded r) (rows s len c) k h)
-      ∙ sym (fetched-row s len c k (t .sheet-is) l))
-      (λ b. let l = ltb-false k c b in
-      fetched-none new-sheet (len + record-length) (c + 1) (suc k) new-checks (omega arith) ∙ sym (fetched-none s len c k (t .sheet-is) l))
+  new-count : length (new .plots) ≡ z .count + 1
+  new-count = length-put-in-order r old ∙ omega (arith, length-plots (z .length) s (first len (z .distance)) (z .count))
 
-  -- the bytes before the records and after the trailer
-  new-front-length : length (take (first len c) s ++ joined new-rows ++ trailer (c + 1)) ≡ len + record-length
-  new-front-length =
-      length-append (take (first len c) s ++ joined new-rows) (trailer (c + 1))
-      ∙ omega (
-        arith,
-        length-append (take (first len c) s) (joined new-rows),
-        length-joined (new-each s len r c n t),
-        new-count s len r c n t,
-        length-trailer (c + 1),
-        new-length s len r c n t,
-        mul-more record-length c,
-      )
+  -- record k, before and after
+  was : (k : ℕ) → fetched s len k ≡ nth old k
+  was k = fetched-plot s len k (parsed-sheet s len e)
 
-  new-heading : take (first len c) new-sheet ≡ take (first len c) s
-  new-heading =
-      let e : new-sheet ≡ take (first len c) s ++ (joined new-rows ++ (trailer (c + 1) ++ drop (len + record-length) s)) = simp append-assoc in
-      rw e (take-at (take (first len c) s) (joined new-rows ++ (trailer (c + 1) ++ drop (len + record-length) s)) (first len c) (new-front s len r c n t))
+  is : (k : ℕ) → fetched (written-over s new) (sheet-length record-length new) k ≡ nth (new .plots) k
+  is k = fetched-plot (written-over s new) (sheet-length record-length new) k new-parsed
 
-  new-past : drop (len + record-length) new-sheet ≡ drop (len + record-length) s
-  new-past = drop-at (take (first len c) s ++ joined new-rows ++ trailer (c + 1)) (drop (len + record-length) s) (len + record-length) new-front-length
+  front : length (new .heading) ≡ first len (record-length * z .count)
+  front =
+      let h = good .framing .holds in
+      length-take-le (first len (z .distance)) s (omega arith) ∙ ap (first len) (good .framing .distance-is)
 
-  new-whole : length new-sheet ≡ length s
-  new-whole =
-      length-append (take (first len c) s ++ joined new-rows ++ trailer (c + 1)) (drop (len + record-length) s)
-      ∙ omega (arith, new-front-length, length-drop (len + record-length) s, t .admitted)
+  grown-sheet : GrownSheet s (written-over s new) len (z .count) r (sheet-length record-length new)
+  grown-sheet = record {
+    length-is = longer s len z r good;
+    counted = checked-trailer s len e;
+    checks = checked-count (written-over s new) (sheet-length record-length new) new-parsed ∙ ap accepted new-count;
+    at = rank (r .number) old;
+    before = λ k h. is k ∙ put-in-order-before r old k h ∙ sym (was k);
+    here = is (rank (r .number) old) ∙ put-in-order-here r old;
+    after = λ k h. is (suc k) ∙ put-in-order-after r old k h ∙ sym (was k);
+    trailer-is = subst (λ (n : ℕ). TrailerOf n (part (written-over s new) (sheet-length record-length new - trailer-length) trailer-length)) new-count (over-trailer s new (a .short));
+    heading = ap (λ (n : ℕ). take n (written-over s new)) (sym front) ∙ over-heading s new ∙ ap (λ (d : ℕ). take (first len d) s) (good .framing .distance-is);
+    past = over-past s new;
+    same-length = over-length s new (a .within);
+  }
 
-grown-sheet : (s : List ℕ) (len : ℕ) (r : Record) (c n : ℕ) → r .number < 256 ^ key-width → insertion s len r ≡ accepted c → len + record-length ≡ n
-    → GrownSheet s (after-insert s len r) len c r n
-grown-sheet s len r c n v e l =
-    let t = insertion-taken s len r c e in
-    rw (insert-leaves s len r c e, ← l) (record {
-      length-is = refl;
-      counted = t .sheet-is;
-      checks = new-checks s len r c v t;
-      at = rank (key (encoded r)) (rows s len c);
-      before = new-before s len r c v t;
-      here = new-here s len r c v t;
-      after = new-after s len r c v t;
-      trailer-is = new-trailer s len r c v t;
-      heading = new-heading s len r c v t;
-      past = new-past s len r c v t;
-      same-length = new-whole s len r c v t;
-    })
+  left-there : (y : Sheet) (n : ℕ) → y ≡ new → insertion s len r ≡ accepted y → written-length y ≡ n → GrownSheet s (after-insert s len r) len (z .count) r n
+  unfolding after-insert
+  left-there y n q i l = rw (i, ← l, q) grown-sheet
 
 -- "The old records and the new one then stand by rising number, with the trailer brought up to date, and the answer is the new length.
 -- Heading and bytes past the new length keep their values."
-pub insert-accepted : (s : List ℕ) (len : ℕ) (r : Record) (n : ℕ) → r .number < 256 ^ key-width → inserted s len r ≡ accepted n
+pub insert-accepted : (s : List ℕ) (len : ℕ) (r : Record) (n : ℕ) → AreBytes s → r .number < 256 ^ number-width → inserted s len r ≡ accepted n
     → (c : ℕ) × GrownSheet s (after-insert s len r) len c r n
 unfolding inserted
-insert-accepted s len r n v q =
-    let m = map-accepted (insertion s len r) (λ _. len + record-length) n q in (m .0, grown-sheet s len r (m .0) n v (m .1) (m .2))
+insert-accepted s len r n b v q =
+    let m = map-accepted (insertion s len r) written-length n q in
+    let t = insertion-taken s len r (m .0) (m .1) in
+    (t .trailer .count, left-there s len r (t .trailer) b v (t .octagon) (t .is-inspected) (t .admission) (m .0) n (t .sheet-is) (m .1) (m .2))
 
 -- of any sheet that checks, and so of this one, the records that are fetched stand by rising number
 pub fetched-ascending : (s : List ℕ) (len c k : ℕ) (a b : Record) → checked s len ≡ accepted c → fetched s len k ≡ accepted a → fetched s len (suc k) ≡ accepted b
     → a .number < b .number
 fetched-ascending s len c k a b e p q =
-    let h : suc k < c = cases (ltb (suc k) c) (ltb-true (suc k) c) (λ f. absurd (accepted-not-refused (sym q ∙ fetched-none s len c (suc k) e (ltb-false (suc k) c f)))) in
-    let x : a ≡ decoded (getD (rows s len c) k []) = accepted-same (sym p ∙ fetched-row s len c k e (omega arith)) in
-    let y : b ≡ decoded (getD (rows s len c) (suc k) []) = accepted-same (sym q ∙ fetched-row s len c (suc k) e h) in
-    let u = ascending-step k (omega (arith, length-records record-length s (first len c) c)) (checked-good s len c e .records) in
-    rw (x, y, ← key-decoded (getD (rows s len c) k []), ← key-decoded (getD (rows s len c) (suc k) [])) u
+    let d = checked-plotted s len c e in
+    ascending-step k a b (sym (d .fetch k) ∙ p) (sym (d .fetch (suc k)) ∙ q) (d .ascending)

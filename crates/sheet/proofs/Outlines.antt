@@ -1,7 +1,8 @@
--- An outline that is accepted fits a record's fields: its start is on the map, and no side is longer than the map is wide.
+-- A record whose outline is accepted fits document 01's layout: its start is on the map, and no side is longer than the map is wide.
 -- Assumes nothing.
 use mathlib.Core.Path.{_≡_}
-use Prim.Native.Nat.{_<_}
+use Prim.Native.Nat.{_+_, _^_, _<_}
+use lib.ListN.{getD}
 use native.Mathlib.Omega.{arith}
 use lib.IntN.{ℤ, pos, negsuc}
 use lib.Signed.{mag}
@@ -13,12 +14,15 @@ use Rattle.octagon.specs.Cells.{limit}
 use Rattle.octagon.proofs.Within.{Near}
 use Rattle.octagon.proofs.Vertices.{reached-normal}
 use Rattle.octagon.proofs.Map.{cells-near}
-use Rattle.outline.specs.declared.Outline.{Outline}
 use Rattle.outline.specs.Closing.{Closes}
+use Rattle.outline.specs.Walk.{side}
+use Rattle.outline.proofs.Steps.{eight}
 use Rattle.outline.specs.Tracing.{drawn, traced}
 use Rattle.outline.proofs.Tracings.{accepted-means, accepted-drawn}
 use Rattle.outline.proofs.Drawn.{walked, reached}
-use Rattle.sheet.specs.Layout.{Fits}
+use Rattle.sheet.specs.declared.Record.{Record}
+use Rattle.sheet.specs.Layout.{number-width, layout, record-length, layout-of, Fits}
+use Rattle.sheet.proofs.Layouts.{record-layout}
 
 -- a number within the map's limit
 near-mag : (z : ℤ) → # z ≼ lit limit → neg (# z) ≼ lit limit → mag z < 32768
@@ -26,24 +30,21 @@ unfolding up dn
 near-mag (pos n) h l = omega arith
 near-mag (negsuc n) h l = omega arith
 
-fits : (o : Outline) → Closes o → Near (drawn o) → Fits o
-fits o k n =
-    let w = walked o in
-    let r = reached o in
+fits : (r : Record) → r .number < 256 ^ number-width → Closes (r .outline) → Near (drawn (r .outline)) → Fits layout r
+fits r v k n =
+    let w = walked (r .outline) in
+    let q = reached (r .outline) in
     record {
-      fits-i = near-mag (o .i) (omega arith) (omega arith);
-      fits-j = near-mag (o .j) (omega arith) (omega arith);
-      fits0 = omega arith;
-      fits1 = omega arith;
-      fits2 = omega arith;
-      fits3 = omega arith;
-      fits4 = omega arith;
-      fits5 = omega arith;
-      fits6 = omega arith;
-      fits7 = omega arith;
+      fits-number = v;
+      fits-i = near-mag (r .outline .i) (omega arith) (omega arith);
+      fits-j = near-mag (r .outline .j) (omega arith) (omega arith);
+      fits-sides =
+          eight (λ k. side (r .outline) k < 256 ^ getD layout (3 + k) 0)
+          (omega arith) (omega arith) (omega arith) (omega arith) (omega arith) (omega arith) (omega arith) (omega arith);
     }
 
-pub accepted-fits : (o : Outline) (c : Octagon) → traced o ≡ accepted c → Fits o
-accepted-fits o c e =
-    let m = accepted-means o c e in
-    fits o (m .closed) (rw (accepted-drawn o c e) at (cells-near c (reached-normal c (m .is-normalised .reached)) (m .on-the-map)))
+pub accepted-fits : (r : Record) (c : Octagon) → r .number < 256 ^ number-width → traced (r .outline) ≡ accepted c → Fits (layout-of record-length) r
+accepted-fits r c v e =
+    let m = accepted-means (r .outline) c e in
+    let n = rw (accepted-drawn (r .outline) c e) at (cells-near c (reached-normal c (m .is-normalised .reached)) (m .on-the-map)) in
+    rw record-layout (fits r v (m .closed) n)

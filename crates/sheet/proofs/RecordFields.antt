@@ -1,28 +1,28 @@
 -- A record is read from and written to the places that document 01 gives its fields (`record-read`, `record-written`), and no other
 -- record has the same fields (`record-only`). Assumes nothing.
-use mathlib.Core.Path.{_≡_, sym, ap, _∙_}
-use mathlib.Core.List.{List, []}
-use Prim.Native.Nat.{ℕ, _+_, _*_, _^_, _<_}
+use mathlib.Core.Path.{_≡_, refl, sym, ap, _∙_}
+use mathlib.Core.List.{List}
+use Prim.Native.Nat.{ℕ, _+_, _*_, _<_}
 use native.Mathlib.Omega.{arith}
 use lib.IntN.{ℤ}
-use lib.ListN.{getD}
 use Rattle.outline.specs.Walk.{side}
 use Rattle.outline.proofs.Steps.{eight}
-use Rattle.records.specs.Numbers.{number, signed, unpacked}
+use Rattle.records.specs.Numbers.{number, signed}
 use Rattle.records.specs.Parts.{part}
-use Rattle.records.specs.Rows.{key-width}
 use Rattle.records.proofs.Fields.{fields-read}
-use Rattle.records.proofs.Rows.{record-at}
 use Rattle.sheet.specs.declared.Record.{Record}
-use Rattle.sheet.specs.Layout.{record-length, layout, encoded, decoded, Fits}
+use Rattle.octagon.specs.Outcome.{accepted}
+use Rattle.sheet.specs.Layout.{layout, record-length, encoded, decoded, Fits}
 use Rattle.sheet.specs.Bytes.{RecordFields}
-use Rattle.sheet.specs.Checking.{first, rows}
+use Rattle.sheet.specs.Order.{nth}
+use Rattle.sheet.specs.Sheets.{plots-from, first}
 use Rattle.sheet.specs.Cases.{RecordAt}
-use Rattle.sheet.proofs.RecordBytes.{decoded-encoded}
+use Rattle.sheet.proofs.Layouts.{decoded-encoded, record-layout}
+use Rattle.sheet.proofs.Plots.{plot-from}
 
 -- ---- reading
 
-pub record-read : (b : List ℕ) → RecordFields b (decoded b)
+pub record-read : (b : List ℕ) → RecordFields b (decoded layout b)
 unfolding decoded
 record-read b =
     let at = fields-read layout b in
@@ -31,7 +31,7 @@ record-read b =
       start-i = ap (signed 2) (at 1 (omega arith));
       start-j = ap (signed 2) (at 2 (omega arith));
       sides =
-          eight (λ k. number (part b (8 + 2 * k) 2) ≡ side (decoded b .outline) k)
+          eight (λ k. number (part b (8 + 2 * k) 2) ≡ side (decoded layout b .outline) k)
           (at 3 (omega arith)) (at 4 (omega arith)) (at 5 (omega arith)) (at 6 (omega arith))
           (at 7 (omega arith)) (at 8 (omega arith)) (at 9 (omega arith)) (at 10 (omega arith));
     }
@@ -59,20 +59,24 @@ of-fields b r f =
     )
 
 -- and there is no other record of these bytes
-pub record-only : (b : List ℕ) (r : Record) → RecordFields b r → r ≡ decoded b
-record-only b r f = sym (of-fields b r f) ∙ of-fields b (decoded b) (record-read b)
+pub record-only : (b : List ℕ) (r : Record) → RecordFields b r → r ≡ decoded layout b
+record-only b r f = sym (of-fields b r f) ∙ of-fields b (decoded layout b) (record-read b)
 
 -- ---- the records of a sheet
 
--- record k is the one whose fields stand at its place, and no other
+-- record k of c is the one whose fields stand at its place, and no other
 module _ (s : List ℕ) (len c k : ℕ) (h : k < c) where
-  pub row-read : RecordAt s len c k (decoded (getD (rows s len c) k []))
-  row-read = rw (record-at record-length s (first len c) c k h) (record-read (part s (first len c + record-length * k) record-length))
+  there : nth (plots-from record-length s (first len (record-length * c)) c) k
+      ≡ accepted (decoded layout (part s (first len (record-length * c) + record-length * k) record-length))
+  there = rw record-layout at (plot-from record-length s (first len (record-length * c)) c k h)
 
-  pub row-only : (r : Record) → RecordAt s len c k r → r ≡ decoded (getD (rows s len c) k [])
-  row-only r f = rw (record-at record-length s (first len c) c k h) (record-only (part s (first len c + record-length * k) record-length) r f)
+  pub row-read : (r : Record) × (nth (plots-from record-length s (first len (record-length * c)) c) k ≡ accepted r) × RecordAt s len c k r
+  row-read = (_, there, record-read (part s (first len (record-length * c) + record-length * k) record-length))
+
+  pub row-only : (r : Record) → RecordAt s len c k r → nth (plots-from record-length s (first len (record-length * c)) c) k ≡ accepted r
+  row-only r f = there ∙ ap accepted (sym (record-only _ r f))
 
 -- ---- writing
 
-pub record-written : (r : Record) → r .number < 256 ^ key-width → Fits (r .outline) → RecordFields (encoded r) r
-record-written r n f = rw (decoded-encoded r n f) at (record-read (encoded r))
+pub record-written : (r : Record) → Fits layout r → RecordFields (encoded layout r) r
+record-written r f = rw (decoded-encoded layout refl r f) at (record-read (encoded layout r))

@@ -1,64 +1,140 @@
--- A heading, good records, their trailer and anything after it are a sheet that is accepted, and its records and its trailer are
--- those. Assumes nothing.
-use mathlib.Core.Path.{_≡_, refl, sym, ap, _∙_}
-use mathlib.Core.List.{List, _++_, append-assoc}
-use Prim.Native.Nat.{ℕ, _+_, _-_, _*_, _^_, _≤_, _<_}
+-- A sheet and its bytes: the parts of what is written, over the record length; of records as document 01 lays them out, what is written
+-- is read again (`parsed-again`), with its trailer, and a sheet that is right has just the bytes of what it says (`sheet-kept`). Assumes
+-- nothing.
+use mathlib.Core.Path.{_≡_, refl, sym, ap, subst, _∙_}
+use mathlib.Core.List.{List, [], _∷_, _++_, append-assoc}
+use Prim.Native.Nat.{ℕ, _+_, _-_, _*_, _≤_}
 use native.Mathlib.Omega.{arith}
-use lib.ListN.{length, length-append}
-use lib.Seq.{take-at, drop-at}
+use lib.ListN.{length, take, drop, length-append, length-drop}
+use lib.Seq.{take-at, drop-at, take-add}
+use Rattle.octagon.specs.Outcome.{accepted}
+use Rattle.records.specs.Numbers.{AreBytes, packed}
 use Rattle.records.specs.Parts.{part}
-use Rattle.records.specs.Rows.{records, joined, Ascending}
-use Rattle.records.proofs.Rows.{Each, length-joined, records-joined}
-use Rattle.sheet.specs.Layout.{sheet-limit, record-length, trailer-length, trailer, trailer-values, trailer-from, trailer-at}
+use Rattle.records.proofs.Numbers.{drop-bytes}
+use Rattle.records.proofs.Fields.{packed-unpacked}
+use Rattle.sheet.specs.declared.trailer.Trailer.{Trailer}
+use Rattle.sheet.specs.Layout.{record-length, layout-of, HasLayout, Fits}
+use Rattle.sheet.specs.Trailer.{trailer-length, trailer-layout, letters, trailer-values, trailer, trailer-from, trailer-at}
 use Rattle.sheet.specs.Bytes.{TrailerOf}
-use Rattle.sheet.specs.Checking.{first, rows}
+use Rattle.sheet.specs.Order.{All, Ascending}
+use Rattle.sheet.specs.Sheets.{sheet-limit, Sheet, plots-from, first, sheet-of, rows-bytes, records-bytes, sheet-bytes, sheet-length}
+use Rattle.sheet.specs.Checking.{parsed}
 use Rattle.sheet.specs.Cases.{GoodFrame, HasOctagon}
-use Rattle.sheet.proofs.Frames.{framed-when}
-use Rattle.sheet.proofs.Checks.{Good}
-use Rattle.sheet.proofs.TrailerBytes.{length-trailer, trailer-again}
+use Rattle.sheet.proofs.Layouts.{record-has-layout}
+use Rattle.sheet.proofs.Plots.{length-plots}
+use Rattle.sheet.proofs.TrailerBytes.{length-trailer, TrailerFits, trailer-again}
 use Rattle.sheet.proofs.TrailerFields.{trailer-written}
+use Rattle.sheet.proofs.WrittenRows.{length-rows, plots-again, rows-kept}
+use Rattle.sheet.proofs.Checks.{Good, inspected-when, inspected-good, parsed-sheet, parsed-inspected}
 
--- c records rs after the heading h, their trailer, and d after it
-abbrev pub sheet : List ℕ → List (List ℕ) → ℕ → List ℕ → List ℕ
-sheet h rs c d = h ++ joined rs ++ trailer c ++ d
+-- ---- the parts of a written sheet z, with d after it
 
-module _ (h : List ℕ) (rs : List (List ℕ)) (c : ℕ) (d : List ℕ) (len : ℕ)
-    (m : Each record-length rs) (n : length rs ≡ c) (l : len ≡ length h + record-length * c + trailer-length) where
-  front : length (h ++ joined rs) ≡ len - trailer-length
-  front = length-append h (joined rs) ∙ omega (arith, length-joined m, n)
+module _ (L : ℕ) (e : HasLayout L) (z : Sheet) (d : List ℕ) where
+  -- the heading; the records; the trailer; and what follows
+  apart : sheet-bytes L z ++ d ≡ z .heading ++ (rows-bytes L (z .plots) ++ (trailer L (length (z .plots)) ++ d))
+  unfolding sheet-bytes records-bytes
+  apart = simp append-assoc
 
-  whole : length (sheet h rs c d) ≡ len + length d
+  front : length (z .heading ++ rows-bytes L (z .plots)) ≡ sheet-length L z - trailer-length
+  front = length-append (z .heading) (rows-bytes L (z .plots)) ∙ omega (arith, length-rows L e (z .plots))
+
+  before-trailer : sheet-bytes L z ++ d ≡ (z .heading ++ rows-bytes L (z .plots)) ++ (trailer L (length (z .plots)) ++ d)
+  before-trailer = apart ∙ sym (append-assoc (z .heading) (rows-bytes L (z .plots)) (trailer L (length (z .plots)) ++ d))
+
+  heading-length : first (sheet-length L z) (L * length (z .plots)) ≡ length (z .heading)
+  heading-length = omega arith
+
+  pub whole : length (sheet-bytes L z ++ d) ≡ sheet-length L z + length d
   whole =
-      length-append (h ++ joined rs ++ trailer c) d
-      ∙ omega (arith, length-append (h ++ joined rs) (trailer c), length-append h (joined rs), length-joined m, length-trailer c, n)
+      ap length before-trailer
+      ∙ length-append (z .heading ++ rows-bytes L (z .plots)) (trailer L (length (z .plots)) ++ d)
+      ∙ omega (arith, front, length-append (trailer L (length (z .plots))) d, length-trailer L (length (z .plots)))
 
-  again : record-length * c < 256 ^ 4 → trailer-at (sheet h rs c d) (len - trailer-length) ≡ trailer-from (trailer-values c)
-  again k = rw (append-assoc (h ++ joined rs) (trailer c) d) (trailer-again (h ++ joined rs) d (len - trailer-length) c front k)
+  pub heading-again : take (length (z .heading)) (sheet-bytes L z ++ d) ≡ z .heading
+  heading-again = rw apart (take-at (z .heading) (rows-bytes L (z .plots) ++ (trailer L (length (z .plots)) ++ d)) (length (z .heading)) refl)
 
-  pub sheet-frame : len ≤ sheet-limit → GoodFrame (sheet h rs c d) len c
-  sheet-frame k =
-      let z = again (omega arith) in
-      let w = whole in
+  trailer-part : part (sheet-bytes L z ++ d) (sheet-length L z - trailer-length) trailer-length ≡ trailer L (length (z .plots))
+  trailer-part =
+      rw (before-trailer, drop-at (z .heading ++ rows-bytes L (z .plots)) (trailer L (length (z .plots)) ++ d) (sheet-length L z - trailer-length) front)
+      (take-at (trailer L (length (z .plots))) d trailer-length (length-trailer L (length (z .plots))))
+
+  trailer-read-again : TrailerFits L (length (z .plots)) → trailer-at (sheet-bytes L z ++ d) (sheet-length L z - trailer-length) ≡ trailer-from (trailer-values L (length (z .plots)))
+  trailer-read-again f = rw before-trailer (trailer-again (z .heading ++ rows-bytes L (z .plots)) d (sheet-length L z - trailer-length) L (length (z .plots)) front f)
+
+  sheet-again : All (Fits (layout-of L)) (z .plots) → sheet-of (sheet-bytes L z ++ d) (sheet-length L z) (trailer-from (trailer-values L (length (z .plots)))) ≡ z
+  sheet-again a =
+      let p : plots-from L (sheet-bytes L z ++ d) (length (z .heading)) (length (z .plots)) ≡ z .plots =
+      rw apart (plots-again L e (z .heading) (trailer L (length (z .plots)) ++ d) (z .plots) a) in
+      rw (heading-length, heading-again, p)
+
+-- ---- a written sheet is read again
+
+module _ (z : Sheet) (d : List ℕ) (k : sheet-length record-length z ≤ sheet-limit) where
+  fits : TrailerFits record-length (length (z .plots))
+  fits = record { distance = omega arith; count = omega arith; each = omega arith }
+
+  frame-again : GoodFrame (sheet-bytes record-length z ++ d) (sheet-length record-length z) (length (z .plots))
+  frame-again =
+      let t = trailer-read-again record-length record-has-layout z d fits in
+      let w = whole record-length record-has-layout z d in
       record {
         size = record { long = omega arith; short = k; within = omega arith };
-        marks = rw z (record { length-is = refl; zeros-are = refl; letters-are = refl });
-        distance = rw z (record { distance-is = refl; near = omega arith });
-        count = rw z;
+        marks = rw t (record { length-is = refl; zeros-are = refl; letters-are = refl });
+        distance = rw t (record { distance-is = refl; near = omega arith });
+        count = rw t;
       }
 
-  pub sheet-trailer : len ≤ sheet-limit → TrailerOf c (part (sheet h rs c d) (len - trailer-length) trailer-length)
-  sheet-trailer k =
-      rw (append-assoc (h ++ joined rs) (trailer c) d, drop-at (h ++ joined rs) (trailer c ++ d) (len - trailer-length) front, take-at (trailer c) d trailer-length (length-trailer c))
-      (trailer-written c (omega arith))
+  pub parsed-again : All (Fits (layout-of record-length)) (z .plots) → Ascending HasOctagon 0 (z .plots)
+      → parsed (sheet-bytes record-length z ++ d) (sheet-length record-length z) ≡ accepted z
+  parsed-again a g =
+      let s = sheet-bytes record-length z ++ d in
+      let len = sheet-length record-length z in
+      let t = trailer-read-again record-length record-has-layout z d fits in
+      let q : sheet-of s len (trailer-at s (len - trailer-length)) ≡ z = rw t (sheet-again record-length record-has-layout z d a) in
+      parsed-sheet s len (inspected-when s len (length (z .plots)) frame-again (subst (λ (y : Sheet). Ascending HasOctagon 0 (y .plots)) (sym q) g)) ∙ ap accepted q
 
-  pub sheet-rows : rows (sheet h rs c d) len c ≡ rs
-  sheet-rows =
-      let e : first len c ≡ length h = omega arith in
-      let f : sheet h rs c d ≡ h ++ (joined rs ++ (trailer c ++ d)) = simp append-assoc in
-      ap (λ (x : ℕ). records record-length (sheet h rs c d) x c) e
-      ∙ ap (records record-length (sheet h rs c d) (length h)) (sym n)
-      ∙ ap (λ (x : List ℕ). records record-length x (length h) (length rs)) f
-      ∙ records-joined h (trailer c ++ d) (length h) refl m
+  pub trailer-of-again : TrailerOf (length (z .plots)) (part (sheet-bytes record-length z ++ d) (sheet-length record-length z - trailer-length) trailer-length)
+  trailer-of-again = rw (trailer-part record-length record-has-layout z d) (trailer-written (length (z .plots)) (omega arith))
 
-  pub sheet-good : len ≤ sheet-limit → Ascending HasOctagon 0 rs → Good (sheet h rs c d) len c
-  sheet-good k g = record { frame = framed-when (sheet h rs c d) len c (sheet-frame k); records = rw sheet-rows g }
+-- ---- and a sheet that is right has just the bytes of what it says
+
+-- a trailer's bytes, from its numbers
+trailer-kept : (s : List ℕ) (t : ℕ) → AreBytes s → t + trailer-length ≤ length s
+    → let z = trailer-at s t in packed trailer-layout (z .distance ∷ z .count ∷ z .length ∷ z .zeros ∷ z .letters ∷ []) ≡ part s t trailer-length
+unfolding trailer-at
+trailer-kept s t b h = packed-unpacked trailer-layout (drop t s) (drop-bytes t s b) (rw length-drop (omega arith))
+
+-- three parts of a list that follow one another
+three-parts : (s : List ℕ) (at d t n len : ℕ) → at + d ≡ t → t + n ≡ len → take at s ++ (part s at d ++ part s t n) ≡ take len s
+three-parts s at d t n len p q = rw (← q, ← p, take-add (at + d) n s, take-add at d s) (sym (append-assoc (take at s) (part s at d) (part s (at + d) n)))
+
+values-kept : (z : Trailer) (L n : ℕ) → z .distance ≡ L * n → z .count ≡ n → z .length ≡ L → z .zeros ≡ 0 → z .letters ≡ letters
+    → trailer-values L n ≡ z .distance ∷ z .count ∷ z .length ∷ z .zeros ∷ z .letters ∷ []
+values-kept z L n d c l o m = rw (d, c, l, o, m)
+
+module _ (s : List ℕ) (len : ℕ) (z : Trailer) (b : AreBytes s) (g : Good s len z) where
+  trailer-bytes : trailer record-length (z .count) ≡ part s (len - trailer-length) trailer-length
+  unfolding trailer
+  trailer-bytes =
+      let y = trailer-at s (len - trailer-length) in
+      let m = g .good-frame .marks in
+      let h = g .framing .holds in
+      let d = sym (ap (λ (x : Trailer). x .distance) (g .is-trailer)) ∙ g .framing .distance-is in
+      ap (packed trailer-layout) (values-kept y record-length (z .count) d (g .good-frame .count) (m .length-is) (m .zeros-are) (m .letters-are))
+      ∙ trailer-kept s (len - trailer-length) b (omega arith)
+
+  bytes-kept : sheet-bytes record-length (sheet-of s len z) ≡ take len s
+  unfolding sheet-bytes records-bytes
+  bytes-kept =
+      let f = g .framing in
+      let h = f .holds in
+      let at = first len (z .distance) in
+      let n = length-plots record-length s at (z .count) in
+      let p : at + record-length * z .count ≡ len - trailer-length = omega (arith, f .distance-is) in
+      let k = rows-kept record-length record-has-layout s at (z .count) b (omega arith) in
+      rw (f .known, n, k, trailer-bytes) (three-parts s at (record-length * z .count) (len - trailer-length) trailer-length len p (omega arith))
+
+pub sheet-kept : (s : List ℕ) (len : ℕ) (z : Sheet) → AreBytes s → parsed s len ≡ accepted z → sheet-bytes record-length z ≡ take len s
+sheet-kept s len z b e =
+    let p = parsed-inspected s len z e in
+    rw (← p .2) (bytes-kept s len (p .0) b (inspected-good s len (p .0) (p .1)))

@@ -2,29 +2,30 @@
 -- start leaves every byte (`start-refused`), and an accepted one a sheet that checks with no records (`start-accepted`). Assumes nothing.
 use mathlib.Core.Path.{_≡_, refl, sym}
 use mathlib.Core.Logic.{_↔_}
-use mathlib.Core.List.{List, [], _++_, append-nil}
+use mathlib.Core.List.{List, []}
 use Prim.Native.Nat.{ℕ, _+_, _-_, _≤_, _<_}
 use native.Mathlib.Omega.{arith}
-use lib.ListN.{length, take, drop}
+use lib.ListN.{length, take}
 use lib.Seq.{length-take-le}
 use lib.Dec.{ltb}
 use borrow.Author.Tests.{lt-ltb, le-ltb, ltb-true, ltb-false}
 use Rattle.integers.proofs.Tests.{cases}
 use Rattle.octagon.specs.Outcome.{Outcome, accepted, refused}
 use Rattle.octagon.proofs.Outcomes.{accepted-same, accepted-not-refused}
-use Rattle.records.specs.Parts.{part, splice}
-use Rattle.records.proofs.Splices.{take-splice, drop-splice, length-splice}
-use Rattle.records.proofs.Rows.{none as no-bytes}
-use Rattle.records.specs.Rows.{none}
-use Rattle.sheet.specs.Layout.{sheet-limit, trailer-length, trailer}
-use Rattle.sheet.specs.Bytes.{TrailerOf}
+use Rattle.records.specs.Parts.{splice}
 use Rattle.sheet.specs.Answers.{bad-length, no-room}
-use Rattle.sheet.specs.Checking.{checked}
-use Rattle.sheet.specs.Writing.{started, after-start, StartedSheet}
+use Rattle.sheet.specs.Layout.{record-length}
+use Rattle.sheet.specs.Trailer.{trailer-length, trailer}
+use Rattle.sheet.specs.Order.{none, last}
+use Rattle.sheet.specs.Sheets.{sheet-limit, Sheet, records-bytes, sheet-length}
+use Rattle.sheet.specs.Writing.{written-over, started, after-start, StartedSheet}
 use Rattle.sheet.specs.WritingCases.{StartCase, above-limit, above-buffer, starts}
-use Rattle.sheet.proofs.Checks.{checked-when}
-use Rattle.sheet.proofs.TrailerBytes.{length-trailer}
-use Rattle.sheet.proofs.Sheets.{sheet, sheet-good, sheet-trailer}
+use Rattle.sheet.proofs.Overwritten.{over-parsed, over-trailer, over-heading, over-past, over-length, over-records}
+use Rattle.sheet.proofs.Checks.{checked-count}
+
+-- a heading of h bytes, and no records
+abbrev pub empty : List ℕ → ℕ → Sheet
+empty s h = record { heading = take h s; plots = [] }
 
 -- each answer, and what is left in the buffer
 module _ (s : List ℕ) (h : ℕ) where
@@ -37,7 +38,7 @@ module _ (s : List ℕ) (h : ℕ) where
   start-full l m = rw (le-ltb sheet-limit (h + trailer-length) l, lt-ltb (length s) (h + trailer-length) m) (refl, refl)
 
   pub start-made : h + trailer-length ≤ sheet-limit → h + trailer-length ≤ length s
-      → (accepted (h + trailer-length) ≡ started s h) × (splice s h (trailer 0) ≡ after-start s h)
+      → (accepted (h + trailer-length) ≡ started s h) × (written-over s (empty s h) ≡ after-start s h)
   unfolding started after-start
   start-made l m = rw (le-ltb sheet-limit (h + trailer-length) l, le-ltb (length s) (h + trailer-length) m) (refl, refl)
 
@@ -75,37 +76,23 @@ started-passed s h n e = go (start-exactly s h (accepted n) .0 e) refl
     go (above-buffer l m) q = absurd (accepted-not-refused (sym q))
     go (starts l m) q = (l, m, sym (accepted-same q))
 
--- the buffer is then the heading, the trailer of no records, and what followed
-module _ (s : List ℕ) (h n : ℕ) (l : h + trailer-length ≤ sheet-limit) (m : h + trailer-length ≤ length s) (e : n ≡ h + trailer-length) where
-  abbrev after : List ℕ
-  after = drop (h + length (trailer 0)) s
-
-  as-sheet : splice s h (trailer 0) ≡ sheet (take h s) [] 0 after
-  unfolding splice
-  as-sheet = rw (append-nil (take h s))
-
-  long : n ≡ length (take h s) + 0 + trailer-length
-  long = omega (arith, length-take-le h s (omega arith))
-
-  started-checks : checked (splice s h (trailer 0)) n ≡ accepted 0
-  started-checks = rw as-sheet (checked-when (sheet (take h s) [] 0 after) n 0 (sheet-good (take h s) [] 0 after n no-bytes refl long (omega arith) none))
-
-  started-trailer : TrailerOf 0 (part (splice s h (trailer 0)) h trailer-length)
-  started-trailer =
-      let d : n - trailer-length ≡ h = omega arith in
-      rw as-sheet (rw d at (sheet-trailer (take h s) [] 0 after n no-bytes refl long (omega arith)))
+-- the trailer alone is written
+pub start-trailer : (s : List ℕ) (h : ℕ) → h + trailer-length ≤ length s → splice s h (trailer record-length 0) ≡ written-over s (empty s h)
+unfolding records-bytes
+start-trailer s h m = over-records s h [] (omega arith)
 
 -- "Only the 16 trailer bytes are written, after the heading, with distance and count 0. It answers h+16."
 pub start-accepted : (s : List ℕ) (h n : ℕ) → started s h ≡ accepted n → StartedSheet s (after-start s h) h n
 start-accepted s h n e =
     let p = started-passed s h n e in
-    let z = length-trailer 0 in
-    let d : n ≡ h + length (trailer 0) = omega (arith, p .2) in
+    let l = length-take-le h s (omega (arith, p .1)) in
+    let m : n ≡ sheet-length record-length (empty s h) = omega (arith, p .2) in
+    let d : sheet-length record-length (empty s h) - trailer-length ≡ h = omega arith in
     rw (sym (start-made s h (p .0) (p .1) .1)) (record {
       length-is = p .2;
-      checks = started-checks s h n (p .0) (p .1) (p .2);
-      trailer-is = started-trailer s h n (p .0) (p .1) (p .2);
-      heading = take-splice s h (trailer 0) h (omega (arith, p .1)) (omega arith);
-      past = rw d (drop-splice s h (trailer 0) (omega (arith, p .1)));
-      same-length = length-splice s h (trailer 0) (omega (arith, p .1));
+      checks = rw m (checked-count _ _ (over-parsed s (empty s h) (omega (arith, p .0)) none last));
+      trailer-is = rw d at (over-trailer s (empty s h) (omega (arith, p .0)));
+      heading = rw l at (over-heading s (empty s h));
+      past = rw m (over-past s (empty s h));
+      same-length = over-length s (empty s h) (omega (arith, p .1));
     })

@@ -1,8 +1,7 @@
 -- The records of a sheet in order: one record, one more, and what an accepted survey says of them all. Assumes nothing.
-use mathlib.Core.Path.{_≡_, refl, sym, ap, _∙_}
+use mathlib.Core.Path.{_≡_, refl, sym}
 use mathlib.Core.List.{List, [], _∷_}
-use Prim.Native.Nat.{ℕ, zero, suc, _+_, _-_, _≤_, _<_}
-use native.Mathlib.Omega.{arith}
+use Prim.Native.Nat.{ℕ, _+_, _-_, _≤_, _<_}
 use lib.Dec.{ltb}
 use borrow.Author.Tests.{lt-ltb, le-ltb, ltb-true}
 use Rattle.integers.proofs.Tests.{cases}
@@ -12,74 +11,70 @@ use Rattle.octagon.proofs.Outcomes.{accepted-same, accepted-not-refused, then-a
 use Rattle.outline.specs.declared.Outline.{Outline}
 use Rattle.outline.specs.Tracing.{traced}
 use Rattle.records.specs.Parts.{part}
-use Rattle.records.specs.Rows.{records, key, Ascending, none, more}
-use Rattle.sheet.specs.Layout.{record-length, decoded}
+use Rattle.sheet.specs.declared.Record.{Record}
 use Rattle.sheet.specs.Answers.{bad-number}
+use Rattle.sheet.specs.Layout.{layout-of, decoded}
+use Rattle.sheet.specs.Order.{Ascending, last, next}
+use Rattle.sheet.specs.Sheets.{plots-from}
 use Rattle.sheet.specs.Checking.{judged, surveyed}
 use Rattle.sheet.specs.Cases.{HasOctagon}
-use Rattle.sheet.proofs.RecordBytes.{key-decoded}
+use Rattle.sheet.proofs.Plots.{plots-more, plots-none}
 
 -- ---- one record
 
-module _ (before : ℕ) (b : List ℕ) (n : ℕ) (e : n ≡ decoded b .number) where
-  number-is : key b ≡ n
-  number-is = key-decoded b ∙ sym e
-
-  pub judged-number : n ≤ before → judged before b ≡ refused bad-number
+module _ (before : ℕ) (r : Record) (n : ℕ) (e : n ≡ r .number) where
+  pub judged-number : n ≤ before → judged before r ≡ refused bad-number
   unfolding judged
-  judged-number h = rw (le-ltb before (key b) (omega (arith, number-is)))
+  judged-number h = rw (← e, le-ltb before n h)
 
-  pub judged-outline : before < n → {o : Outline} → o ≡ decoded b .outline → {k : ℕ} → traced o ≡ refused k → judged before b ≡ refused k
+  pub judged-outline : before < n → {o : Outline} → o ≡ r .outline → {k : ℕ} → traced o ≡ refused k → judged before r ≡ refused k
   unfolding judged
-  judged-outline h f t = rw (lt-ltb before (key b) (omega (arith, number-is)), ← f, t)
+  judged-outline h f t = rw (← e, lt-ltb before n h, ← f, t)
 
-  pub judged-good : before < n → {o : Outline} → o ≡ decoded b .outline → {a : Octagon} → traced o ≡ accepted a → judged before b ≡ accepted n
+  pub judged-good : before < n → {o : Outline} → o ≡ r .outline → {a : Octagon} → traced o ≡ accepted a → judged before r ≡ accepted n
   unfolding judged
-  judged-good h f t = rw (lt-ltb before (key b) (omega (arith, number-is)), ← f, t) (ap accepted number-is)
+  judged-good h f t = rw (← e, lt-ltb before n h, ← f, t)
 
 -- ---- one more
 
-module _ (c before : ℕ) (s : List ℕ) (p : ℕ) where
-  pub survey-refused : (n k : ℕ) → 0 < n → judged before (part s p record-length) ≡ refused k → surveyed c before (records record-length s p n) ≡ refused k
+module _ {A : Type 0} (a : A) (before L : ℕ) (s : List ℕ) (p n : ℕ) where
+  pub survey-refused : (k : ℕ) → 0 < n → judged before (decoded (layout-of L) (part s p L)) ≡ refused k → surveyed a before (plots-from L s p n) ≡ refused k
   unfolding surveyed
-  survey-refused zero k h e = absurd (omega arith)
-  survey-refused (suc n) k h e = rw e
+  survey-refused k h e = rw (plots-more L s p n h, e)
 
-  pub survey-more : (n v : ℕ) → 0 < n → judged before (part s p record-length) ≡ accepted v
-      → surveyed c before (records record-length s p n) ≡ surveyed c v (records record-length s (p + record-length) (n - 1))
+  pub survey-more : (v : ℕ) → 0 < n → judged before (decoded (layout-of L) (part s p L)) ≡ accepted v
+      → surveyed a before (plots-from L s p n) ≡ surveyed a v (plots-from L s (p + L) (n - 1))
   unfolding surveyed
-  survey-more zero v h e = absurd (omega arith)
-  survey-more (suc n) v h e = let q : suc n - 1 ≡ n = omega arith in rw (e, q)
+  survey-more v h e = rw (plots-more L s p n h, e)
 
-  pub survey-end : (n : ℕ) → n ≤ 0 → surveyed c before (records record-length s p n) ≡ accepted c
+  pub survey-end : n ≤ 0 → surveyed a before (plots-from L s p n) ≡ accepted a
   unfolding surveyed
-  survey-end zero h = refl
-  survey-end (suc n) h = absurd (omega arith)
+  survey-end h = rw (plots-none L s p n h)
 
 -- ---- all of them
 
-pub judged-when : (before : ℕ) (b : List ℕ) → before < key b → HasOctagon b → judged before b ≡ accepted (key b)
+pub judged-when : (before : ℕ) (r : Record) → before < r .number → HasOctagon r → judged before r ≡ accepted (r .number)
 unfolding judged
-judged-when before b h t = rw (lt-ltb before (key b) h, t .1)
+judged-when before r h t = rw (lt-ltb before (r .number) h, t .1)
 
-judged-passed : (before v : ℕ) (b : List ℕ) → judged before b ≡ accepted v → (before < key b) × HasOctagon b × (v ≡ key b)
+judged-passed : (before v : ℕ) (r : Record) → judged before r ≡ accepted v → (before < r .number) × HasOctagon r × (v ≡ r .number)
 unfolding judged
-judged-passed before v b e =
-    cases (ltb before (key b))
-    (λ h. let p = map-accepted (traced (decoded b .outline)) (λ _. key b) v (rw h at e) in (ltb-true before (key b) h, (p .0, p .1), sym (p .2)))
+judged-passed before v r e =
+    cases (ltb before (r .number))
+    (λ h. let p = map-accepted (traced (r .outline)) (λ _. r .number) v (rw h at e) in (ltb-true before (r .number) h, (p .0, p .1), sym (p .2)))
     (λ h. absurd (accepted-not-refused (sym (rw h at e))))
 
 -- a survey is accepted exactly where the numbers rise from above and each outline is accepted
-pub surveyed-when : (c : ℕ) {before : ℕ} {bs : List (List ℕ)} → Ascending HasOctagon before bs → surveyed c before bs ≡ accepted c
+pub surveyed-when : {A : Type 0} (a : A) {before : ℕ} {rs : List Record} → Ascending HasOctagon before rs → surveyed a before rs ≡ accepted a
 unfolding surveyed
-surveyed-when c none = refl
-surveyed-when c (more {v = v} {r = b} {rs = bs} h t m) = rw (judged-when v b h t) (surveyed-when c m)
+surveyed-when a last = refl
+surveyed-when a (next {v = v} {r = r} {rs = rs} h t m) = rw (judged-when v r h t) (surveyed-when a m)
 
-pub surveyed-passed : (c n before : ℕ) (bs : List (List ℕ)) → surveyed c before bs ≡ accepted n → Ascending HasOctagon before bs × (n ≡ c)
+pub surveyed-passed : {A : Type 0} (a b : A) (before : ℕ) (rs : List Record) → surveyed a before rs ≡ accepted b → Ascending HasOctagon before rs × (b ≡ a)
 unfolding surveyed
-surveyed-passed c n before [] e = (none, sym (accepted-same e))
-surveyed-passed c n before (b ∷ bs) e =
-    let t = then-accepted (judged before b) (λ v. surveyed c v bs) n e in
-    let j = judged-passed before (t .between) b (t .first) in
-    let m = surveyed-passed c n (t .between) bs (t .second) in
-    (more {r = b} (j .0) (j .1) (rw (j .2) at (m .0)), m .1)
+surveyed-passed a b before [] e = (last, sym (accepted-same e))
+surveyed-passed a b before (r ∷ rs) e =
+    let t = then-accepted (judged before r) (λ v. surveyed a v rs) b e in
+    let j = judged-passed before (t .between) r (t .first) in
+    let m = surveyed-passed a b (t .between) rs (t .second) in
+    (next {r = r} (j .0) (j .1) (rw (j .2) at (m .0)), m .1)

@@ -11,28 +11,32 @@ use Rattle.records.specs.Numbers.{AreBytes, number, packed, unpacked}
 use Rattle.records.specs.Parts.{part}
 use Rattle.records.proofs.Numbers.{drop-bytes}
 use Rattle.records.proofs.Fields.{Fit, none, more, length-packed, unpacked-packed, packed-unpacked, unpacked-take}
-use Rattle.sheet.specs.Layout.{record-length, trailer-length, trailer-layout, letters, trailer-values, trailer, marks, trailer-from, trailer-at}
+use Rattle.sheet.specs.Layout.{record-length}
+use Rattle.sheet.specs.Trailer.{trailer-length, trailer-layout, letters, trailer-values, trailer, marks, trailer-from, trailer-at}
 use Rattle.sheet.specs.Cases.{GoodMarks}
 
-pub length-trailer : (n : ℕ) → length (trailer n) ≡ trailer-length
+pub length-trailer : (L n : ℕ) → length (trailer L n) ≡ trailer-length
 unfolding trailer
-length-trailer n = length-packed trailer-layout (trailer-values n) refl
+length-trailer L n = length-packed trailer-layout (trailer-values L n) refl
 
--- its numbers fit their fields, where the distance does
-values-fit : (n : ℕ) → record-length * n < 256 ^ 4 → Fit trailer-layout (trailer-values n)
-values-fit n h =
-    let a : n < 256 ^ 4 = omega arith in
-    let b : record-length < 256 ^ 2 = omega arith in
+-- its numbers fit their fields
+pub record TrailerFits (L n : ℕ) : Type 0 where
+  pub distance : L * n < 256 ^ 4
+  pub count : n < 256 ^ 4
+  pub each : L < 256 ^ 2
+
+trailer-values-fit : (L n : ℕ) → TrailerFits L n → Fit trailer-layout (trailer-values L n)
+trailer-values-fit L n f =
     let d : 0 < 256 ^ 2 = omega arith in
     let e : letters < 256 ^ 4 = omega arith in
-    more h (more a (more b (more d (more e none))))
+    more (f .distance) (more (f .count) (more (f .each) (more d (more e none))))
 
 -- a trailer that was written after a is read again
-pub trailer-again : (a d : List ℕ) (t n : ℕ) → length a ≡ t → record-length * n < 256 ^ 4 → trailer-at (a ++ (trailer n ++ d)) t ≡ trailer-from (trailer-values n)
+pub trailer-again : (a d : List ℕ) (t L n : ℕ) → length a ≡ t → TrailerFits L n → trailer-at (a ++ (trailer L n ++ d)) t ≡ trailer-from (trailer-values L n)
 unfolding trailer trailer-at
-trailer-again a d t n e h =
-    ap (λ (x : List ℕ). trailer-from (unpacked trailer-layout x)) (drop-at a (packed trailer-layout (trailer-values n) ++ d) t e)
-    ∙ ap trailer-from (unpacked-packed d (values-fit n h))
+trailer-again a d t L n e f =
+    ap (λ (x : List ℕ). trailer-from (unpacked trailer-layout x)) (drop-at a (packed trailer-layout (trailer-values L n) ++ d) t e)
+    ∙ ap trailer-from (unpacked-packed d (trailer-values-fit L n f))
 
 -- ---- the marks, in bytes
 

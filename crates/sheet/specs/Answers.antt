@@ -3,6 +3,9 @@
 use Prim.Native.Nat.{ℕ}
 use Rattle.octagon.specs.Outcome.{Outcome, accepted, refused}
 use Rattle.sheet.specs.declared.Record.{Record}
+use Rattle.sheet.specs.declared.trailer.Trailer.{Trailer}
+use Rattle.sheet.specs.declared.trailer.Framed.{Framed}
+use Rattle.sheet.specs.declared.trailer.Framed.the-variants as framed
 use Rattle.sheet.specs.declared.checking.Judged.{Judged}
 use Rattle.sheet.specs.declared.checking.Judged.the-variants as judged
 use Rattle.sheet.specs.declared.Checked.{Checked}
@@ -15,6 +18,10 @@ use Rattle.sheet.specs.declared.Written.the-variants as written
 abbrev pub count-outcome : Checked → Outcome ℕ
 count-outcome (checked.Count c) = accepted c
 count-outcome (checked.Refused k) = refused k
+
+abbrev pub trailer-outcome : Framed → Outcome Trailer
+trailer-outcome (framed.Trailer z) = accepted z
+trailer-outcome (framed.Refused k) = refused k
 
 abbrev pub number-outcome : Judged → Outcome ℕ
 number-outcome (judged.Number v) = accepted v

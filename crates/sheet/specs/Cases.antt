@@ -11,13 +11,14 @@ use Rattle.outline.specs.Closing.{Closes}
 use Rattle.outline.specs.Walk.{InsideWalk}
 use Rattle.outline.specs.Tracing.{traced, not-closed}
 use Rattle.records.specs.Parts.{part}
-use Rattle.records.specs.Rows.{key, Ascending}
 use Rattle.sheet.specs.declared.Record.{Record}
 use Rattle.sheet.specs.declared.trailer.Trailer.{Trailer}
-use Rattle.sheet.specs.Layout.{sheet-limit, record-length, trailer-length, letters, trailer-at, decoded}
-use Rattle.sheet.specs.Bytes.{RecordFields}
 use Rattle.sheet.specs.Answers.{bad-length, bad-trailer, bad-distance, bad-number, no-record}
-use Rattle.sheet.specs.Checking.{rows}
+use Rattle.sheet.specs.Layout.{record-length}
+use Rattle.sheet.specs.Trailer.{trailer-length, letters, trailer-at}
+use Rattle.sheet.specs.Bytes.{RecordFields}
+use Rattle.sheet.specs.Order.{Ascending}
+use Rattle.sheet.specs.Sheets.{sheet-limit, sheet-of}
 
 -- ---- the frame: the length and the trailer
 
@@ -33,9 +34,9 @@ pub record GoodMarks (z : Trailer) : Type 0 where
   pub zeros-are : z .zeros ≡ 0
   pub letters-are : z .letters ≡ letters
 
--- its distance is that of its records, and is at most the length less the trailer's
+-- its distance is that of its records, of the length that it names, and is at most the length less the trailer's
 pub record GoodDistance (len : ℕ) (z : Trailer) : Type 0 where
-  pub distance-is : z .distance ≡ record-length * z .count
+  pub distance-is : z .distance ≡ z .length * z .count
   pub near : z .distance ≤ len - trailer-length
 
 -- all three are right, and the trailer states the count c
@@ -47,18 +48,22 @@ pub record GoodFrame (s : List ℕ) (len c : ℕ) : Type 0 where
 
 -- ---- the records
 
--- the outline of the record in these bytes has an octagon: it closes and lies on the map
-abbrev pub HasOctagon : List ℕ → Type 0
-HasOctagon b = (o : Octagon) × (traced (decoded b .outline) ≡ accepted o)
+-- the records that the trailer states, right or wrong
+abbrev pub stated-plots : List ℕ → ℕ → List Record
+stated-plots s len = sheet-of s len (trailer-at s (len - trailer-length)) .plots
+
+-- a record's outline has an octagon: it closes and lies on the map
+abbrev pub HasOctagon : Record → Type 0
+HasOctagon r = (o : Octagon) × (traced (r .outline) ≡ accepted o)
 
 -- the first record that is refused, and its refusal: 11 when its plot number is 0 or not above the one before (`before` is that
 -- one, or 0 at the first record), 3 when its outline does not close, 2 when some cell of the outline lies off the map
-pub data Faulty : ℕ → List (List ℕ) → ℕ → Type 0 where
-  wrong-number : {before : ℕ} {b : List ℕ} {bs : List (List ℕ)} → key b ≤ before → Faulty before (b ∷ bs) bad-number
-  open-outline : {before : ℕ} {b : List ℕ} {bs : List (List ℕ)} → before < key b → ¬ (Closes (decoded b .outline)) → Faulty before (b ∷ bs) not-closed
-  off-outline : {before : ℕ} {b : List ℕ} {bs : List (List ℕ)} → before < key b → Closes (decoded b .outline) → LeavesMap (InsideWalk (decoded b .outline))
-      → Faulty before (b ∷ bs) off-map
-  later : {before e : ℕ} {b : List ℕ} {bs : List (List ℕ)} → before < key b → HasOctagon b → Faulty (key b) bs e → Faulty before (b ∷ bs) e
+pub data Faulty : ℕ → List Record → ℕ → Type 0 where
+  wrong-number : {before : ℕ} {r : Record} {rs : List Record} → r .number ≤ before → Faulty before (r ∷ rs) bad-number
+  open-outline : {before : ℕ} {r : Record} {rs : List Record} → before < r .number → ¬ (Closes (r .outline)) → Faulty before (r ∷ rs) not-closed
+  off-outline : {before : ℕ} {r : Record} {rs : List Record} → before < r .number → Closes (r .outline) → LeavesMap (InsideWalk (r .outline))
+      → Faulty before (r ∷ rs) off-map
+  later : {before e : ℕ} {r : Record} {rs : List Record} → before < r .number → HasOctagon r → Faulty (r .number) rs e → Faulty before (r ∷ rs) e
 
 -- ---- check a sheet
 
@@ -72,8 +77,8 @@ pub data CheckCase (s : List ℕ) (len : ℕ) : Outcome ℕ → Type 0 where
   unmarked : GoodLength s len → ¬ (GoodMarks (trailer-at s (len - trailer-length))) → CheckCase s len (refused bad-trailer)
   misplaced : GoodLength s len → GoodMarks (trailer-at s (len - trailer-length)) → ¬ (GoodDistance len (trailer-at s (len - trailer-length)))
       → CheckCase s len (refused bad-distance)
-  faulty : {c e : ℕ} → GoodFrame s len c → Faulty 0 (rows s len c) e → CheckCase s len (refused e)
-  right : {c : ℕ} → GoodFrame s len c → Ascending HasOctagon 0 (rows s len c) → CheckCase s len (accepted c)
+  faulty : {c e : ℕ} → GoodFrame s len c → Faulty 0 (stated-plots s len) e → CheckCase s len (refused e)
+  right : {c : ℕ} → GoodFrame s len c → Ascending HasOctagon 0 (stated-plots s len) → CheckCase s len (accepted c)
 
 -- ---- fetch record k
 

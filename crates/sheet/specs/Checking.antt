@@ -3,15 +3,19 @@
 use mathlib.Core.Bool.{Bool, cond, not, _||_}
 use mathlib.Core.List.{List, [], _∷_}
 use Prim.Native.Nat.{ℕ, _+_, _-_, _*_, _≤_}
-use lib.ListN.{length, getD}
+use lib.ListN.{length}
 use lib.Dec.{ltb, eqb}
-use Rattle.octagon.specs.Outcome.{Outcome, accepted, refused, then}
+use Rattle.octagon.specs.Outcome.{Outcome, accepted, refused, then, left}
 use Rattle.outline.specs.Tracing.{traced}
-use Rattle.records.specs.Rows.{records, key}
 use Rattle.sheet.specs.declared.Record.{Record}
 use Rattle.sheet.specs.declared.trailer.Trailer.{Trailer}
-use Rattle.sheet.specs.Layout.{sheet-limit, record-length, trailer-length, letters, trailer-at, decoded}
-use Rattle.sheet.specs.Answers.{bad-length, bad-trailer, bad-distance, bad-number, no-record}
+use Rattle.sheet.specs.Answers.{bad-length, bad-trailer, bad-distance, bad-number}
+use Rattle.sheet.specs.Layout.{record-length}
+use Rattle.sheet.specs.Trailer.{trailer-length, letters, trailer-at}
+use Rattle.sheet.specs.Order.{nth}
+use Rattle.sheet.specs.Sheets.{sheet-limit, Sheet, plots-from, first, sheet-of}
+
+-- ---- the frame: the length and the trailer
 
 -- the length is below the trailer's, above the limit or above the buffer's
 abbrev pub is-bad-length : List ℕ → ℕ → Bool
@@ -23,48 +27,55 @@ has-bad-marks z = not (eqb (z .length) record-length) || not (eqb (z .zeros) 0) 
 
 -- the distance is not that of the records, or exceeds the length less the trailer's
 abbrev pub is-bad-distance : ℕ → Trailer → Bool
-is-bad-distance len z = not (eqb (z .distance) (record-length * z .count)) || ltb (len - trailer-length) (z .distance)
+is-bad-distance len z = not (eqb (z .distance) (z .length * z .count)) || ltb (len - trailer-length) (z .distance)
 
--- the count that a trailer states for a sheet of len bytes: 9, then 10
-unfoldable pub stated : ℕ → Trailer → Outcome ℕ
-stated len z = cond (has-bad-marks z) (refused bad-trailer) (cond (is-bad-distance len z) (refused bad-distance) (accepted (z .count)))
+-- the trailer of a sheet of len bytes: 9, then 10
+unfoldable pub stated : ℕ → Trailer → Outcome Trailer
+stated len z = cond (has-bad-marks z) (refused bad-trailer) (cond (is-bad-distance len z) (refused bad-distance) (accepted z))
 
--- the count that the sheet's trailer states: 8 first
-unfoldable pub framed : List ℕ → ℕ → Outcome ℕ
+-- and 8 first
+unfoldable pub framed : List ℕ → ℕ → Outcome Trailer
 framed s len = cond (is-bad-length s len) (refused bad-length) (stated len (trailer-at s (len - trailer-length)))
 
--- the first len bytes of s are as many as a sheet may have, and have room for c records and a trailer
-pub record HoldsRecords (s : List ℕ) (len c : ℕ) : Type 0 where
+-- the first len bytes of s are as many as a sheet may have, and have room for d bytes of records and a trailer
+pub record HoldsRecords (s : List ℕ) (len d : ℕ) : Type 0 where
   pub within : len ≤ length s
   pub short : len ≤ sheet-limit
-  pub long : record-length * c + trailer-length ≤ len
+  pub long : d + trailer-length ≤ len
 
--- where the first of c records stands, after the heading, and the bytes of each record
-abbrev pub first : ℕ → ℕ → ℕ
-first len c = len - trailer-length - record-length * c
-
-abbrev pub rows : List ℕ → ℕ → ℕ → List (List ℕ)
-rows s len c = records record-length s (first len c) c
+-- ---- the records
 
 -- a record's plot number, where the record before it has the number `before` (0 for the first): 11 when it is 0 or not above
 -- that, then the outline's refusals
-unfoldable pub judged : ℕ → List ℕ → Outcome ℕ
-judged before b =
-    cond (ltb before (key b)) (then (traced (decoded b .outline)) (λ _. accepted (key b))) (refused bad-number)
+unfoldable pub judged : ℕ → Record → Outcome ℕ
+judged before r = cond (ltb before (r .number)) (then (traced (r .outline)) (λ _. accepted (r .number))) (refused bad-number)
 
--- each record in order, and then the count c
-unfoldable pub surveyed : ℕ → ℕ → List (List ℕ) → Outcome ℕ
-surveyed c before [] = accepted c
-surveyed c before (b ∷ bs) = then (judged before b) (λ v. surveyed c v bs)
+-- each record in order, and then a
+unfoldable pub surveyed : {A : Type 0} → A → ℕ → List Record → Outcome A
+surveyed a before [] = accepted a
+surveyed a before (r ∷ rs) = then (judged before r) (λ v. surveyed a v rs)
 
--- what `check` answers
+-- ---- the sheet
+
+-- its trailer, where the frame and every record are right
+unfoldable pub inspected : List ℕ → ℕ → Outcome Trailer
+inspected s len = then (framed s len) (λ z. surveyed z 0 (sheet-of s len z .plots))
+
+-- what it then says
+unfoldable pub parsed : List ℕ → ℕ → Outcome Sheet
+parsed s len = then (inspected s len) (λ z. accepted (sheet-of s len z))
+
+-- its records, and none where it is refused
+unfoldable pub plots : List ℕ → ℕ → List Record
+plots s len = left [] (parsed s len) (λ z. z .plots)
+
+-- what `check` answers: the count
 unfoldable pub checked : List ℕ → ℕ → Outcome ℕ
-checked s len = then (framed s len) (λ c. surveyed c 0 (rows s len c))
+checked s len = then (parsed s len) (λ z. accepted (length (z .plots)))
 
 -- what `fetch` answers: 13 when k is not below the count
 unfoldable pub fetched : List ℕ → ℕ → ℕ → Outcome Record
-fetched s len k =
-    then (checked s len) (λ c. cond (ltb k c) (accepted (decoded (getD (rows s len c) k []))) (refused no-record))
+fetched s len k = then (parsed s len) (λ z. nth (z .plots) k)
 
 -- what `read` answers of a sheet in which a check has counted c records: 8 for the length, 10 when the records exceed the length
 -- less the trailer's, 13 when k is not below c. No record is checked.
@@ -72,4 +83,4 @@ unfoldable pub read : List ℕ → ℕ → ℕ → ℕ → Outcome Record
 read s len c k =
     cond (is-bad-length s len) (refused bad-length)
     (cond (ltb (len - trailer-length) (record-length * c)) (refused bad-distance)
-    (cond (ltb k c) (accepted (decoded (getD (rows s len c) k []))) (refused no-record)))
+    (nth (plots-from record-length s (first len (record-length * c)) c) k))

@@ -1,8 +1,11 @@
--- What the contracts and the theorems on sheets speak of: the bytes of records and trailers, what each call answers and leaves, and
--- the cases of its answers.
-pub mod Layout
-pub mod Bytes
+-- What the contracts and the theorems on sheets speak of: layouts, trailers, the order of records, what a sheet says and its bytes, what
+-- each call answers and leaves, and the cases of its answers.
 pub mod Answers
+pub mod Layout
+pub mod Trailer
+pub mod Bytes
+pub mod Order
+pub mod Sheets
 pub mod Checking
 pub mod Cases
 pub mod Writing

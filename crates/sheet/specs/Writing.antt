@@ -2,19 +2,29 @@
 -- accepted one (`StartedSheet`, `GrownSheet`), which proofs/Starts.antt and proofs/Grown.antt show of them. Assumes nothing.
 use mathlib.Core.Path.{_≡_}
 use mathlib.Core.Bool.{Bool, cond, _||_}
-use mathlib.Core.List.{List, _++_}
-use Prim.Native.Nat.{ℕ, suc, _+_, _-_, _≤_, _<_}
+use mathlib.Core.List.{List, []}
+use Prim.Native.Nat.{ℕ, suc, _+_, _-_, _*_, _≤_, _<_}
 use lib.ListN.{length, take, drop}
 use lib.Dec.{ltb, eqb}
 use Rattle.octagon.specs.Outcome.{Outcome, accepted, refused, then, left}
 use Rattle.outline.specs.Tracing.{traced}
 use Rattle.records.specs.Parts.{part, splice}
-use Rattle.records.specs.Rows.{joined, present, put-in-order}
 use Rattle.sheet.specs.declared.Record.{Record}
-use Rattle.sheet.specs.Layout.{sheet-limit, record-length, trailer-length, trailer, encoded}
-use Rattle.sheet.specs.Bytes.{TrailerOf}
 use Rattle.sheet.specs.Answers.{bad-length, bad-number, no-room}
-use Rattle.sheet.specs.Checking.{first, rows, checked, fetched}
+use Rattle.sheet.specs.Layout.{record-length}
+use Rattle.sheet.specs.Trailer.{trailer-length}
+use Rattle.sheet.specs.Bytes.{TrailerOf}
+use Rattle.sheet.specs.Order.{present, put-in-order}
+use Rattle.sheet.specs.Sheets.{sheet-limit, Sheet, first, sheet-bytes, sheet-length}
+use Rattle.sheet.specs.Checking.{parsed, checked, fetched}
+
+-- a buffer s with a sheet written at its start: what follows the sheet stays
+unfoldable pub written-over : List ℕ → Sheet → List ℕ
+written-over s z = splice s 0 (sheet-bytes record-length z)
+
+-- how long it then is
+abbrev pub written-length : Sheet → ℕ
+written-length z = sheet-length record-length z
 
 -- ---- start a sheet
 
@@ -24,9 +34,9 @@ started s h =
     cond (ltb sheet-limit (h + trailer-length)) (refused bad-length)
     (cond (ltb (length s) (h + trailer-length)) (refused no-room) (accepted (h + trailer-length)))
 
--- the trailer of no records is written after the heading, and no other byte
+-- the heading stays, and no record follows it
 unfoldable pub after-start : List ℕ → ℕ → List ℕ
-after-start s h = left s (started s h) (λ _. splice s h (trailer 0))
+after-start s h = left s (started s h) (λ _. written-over s (record { heading = take h s; plots = [] }))
 
 -- what an accepted start that answers n leaves in s, which is then s′
 pub record StartedSheet (s s′ : List ℕ) (h n : ℕ) : Type 0 where
@@ -41,37 +51,35 @@ pub record StartedSheet (s s′ : List ℕ) (h n : ℕ) : Type 0 where
 
 -- ---- insert a plot
 
--- the number v is 0, or one of c records has it
-abbrev pub is-bad-number : List ℕ → ℕ → ℕ → ℕ → Bool
-is-bad-number s len v c = eqb v 0 || present v (rows s len c)
+-- a sheet with one record more
+abbrev pub with-plot : Record → Sheet → Sheet
+with-plot r z = record { heading = z .heading; plots = put-in-order r (z .plots) }
 
--- the new length exceeds the buffer or the limit
+-- the number v is 0, or one of the records has it
+abbrev pub is-bad-number : ℕ → List Record → Bool
+is-bad-number v rs = eqb v 0 || present v rs
+
+-- the length n exceeds the buffer or the limit
 abbrev pub has-no-room : List ℕ → ℕ → Bool
-has-no-room s len = ltb (length s) (len + record-length) || ltb sheet-limit (len + record-length)
+has-no-room s n = ltb (length s) n || ltb sheet-limit n
 
--- whether a record with the number v may go into a sheet of c records: 11, then 12
-unfoldable pub admitted : List ℕ → ℕ → ℕ → ℕ → Outcome ℕ
-admitted s len v c = cond (is-bad-number s len v c) (refused bad-number) (cond (has-no-room s len) (refused no-room) (accepted c))
+-- the sheet z with r, where r may go in: 11, then 12 by the new length
+unfoldable pub admitted : List ℕ → Record → Sheet → Outcome Sheet
+admitted s r z =
+    cond (is-bad-number (r .number) (z .plots)) (refused bad-number)
+    (cond (has-no-room s (sheet-length record-length (with-plot r z))) (refused no-room) (accepted (with-plot r z)))
 
--- the number of records that a sheet has where it may take one with the number v: the check's refusals, 11 and 12
-unfoldable pub vetted : List ℕ → ℕ → ℕ → Outcome ℕ
-vetted s len v = then (checked s len) (admitted s len v)
-
--- and where the record r may go in: the outline's refusals first
-unfoldable pub insertion : List ℕ → ℕ → Record → Outcome ℕ
-insertion s len r = then (traced (r .outline)) (λ _. vetted s len (r .number))
+-- the sheet that an insert makes: the outline's refusals, the check's, 11 and 12
+unfoldable pub insertion : List ℕ → ℕ → Record → Outcome Sheet
+insertion s len r = then (traced (r .outline)) (λ _. then (parsed s len) (admitted s r))
 
 -- what `insert` answers: the new length
 unfoldable pub inserted : List ℕ → ℕ → Record → Outcome ℕ
-inserted s len r = then (insertion s len r) (λ _. accepted (len + record-length))
-
--- a sheet of c records with one more: the heading, the records by rising number, the trailer, and what followed
-unfoldable pub grown : List ℕ → ℕ → ℕ → List ℕ → List ℕ
-grown s len c b = take (first len c) s ++ joined (put-in-order b (rows s len c)) ++ trailer (c + 1) ++ drop (len + record-length) s
+inserted s len r = then (insertion s len r) (λ z. accepted (written-length z))
 
 -- what `insert` leaves
 unfoldable pub after-insert : List ℕ → ℕ → Record → List ℕ
-after-insert s len r = left s (insertion s len r) (λ c. grown s len c (encoded r))
+after-insert s len r = left s (insertion s len r) (written-over s)
 
 -- what an accepted insert of the record r that answers n leaves in s, a sheet of len bytes and c records, which is then s′
 pub record GrownSheet (s s′ : List ℕ) (len c : ℕ) (r : Record) (n : ℕ) : Type 0 where
@@ -87,6 +95,6 @@ pub record GrownSheet (s s′ : List ℕ) (len c : ℕ) (r : Record) (n : ℕ) :
   -- "with the trailer brought up to date"
   pub trailer-is : TrailerOf (c + 1) (part s′ (n - trailer-length) trailer-length)
   -- heading and bytes past the new length keep their values
-  pub heading : take (first len c) s′ ≡ take (first len c) s
+  pub heading : take (first len (record-length * c)) s′ ≡ take (first len (record-length * c)) s
   pub past : drop n s′ ≡ drop n s
   pub same-length : length s′ ≡ length s

@@ -11,12 +11,13 @@ use Rattle.outline.specs.declared.Outline.{Outline}
 use Rattle.outline.specs.Closing.{Closes}
 use Rattle.outline.specs.Walk.{InsideWalk}
 use Rattle.outline.specs.Tracing.{not-closed}
-use Rattle.records.specs.Rows.{Present}
 use Rattle.sheet.specs.declared.Record.{Record}
-use Rattle.sheet.specs.Layout.{sheet-limit, record-length, trailer-length}
 use Rattle.sheet.specs.Answers.{bad-length, bad-number, no-room}
-use Rattle.sheet.specs.Checking.{rows}
-use Rattle.sheet.specs.Cases.{CheckCase}
+use Rattle.sheet.specs.Layout.{record-length}
+use Rattle.sheet.specs.Trailer.{trailer-length}
+use Rattle.sheet.specs.Order.{Present}
+use Rattle.sheet.specs.Sheets.{sheet-limit}
+use Rattle.sheet.specs.Cases.{stated-plots, CheckCase}
 
 -- ---- start a sheet
 
@@ -39,8 +40,8 @@ pub record GoodSheet (s : List ℕ) (len : ℕ) (r : Record) (c : ℕ) : Type 0 
   pub sheet : CheckCase s len (accepted c)
 
 -- "the number is 0 or present"
-abbrev pub BadNumber : List ℕ → ℕ → ℕ → Record → Type 0
-BadNumber s len c r = (r .number ≡ 0) ⊎ Present (r .number) (rows s len c)
+abbrev pub BadNumber : List ℕ → ℕ → Record → Type 0
+BadNumber s len r = (r .number ≡ 0) ⊎ Present (r .number) (stated-plots s len)
 
 -- "length plus 24 exceeds the buffer or 65,536"
 abbrev pub NoRoom : List ℕ → ℕ → Type 0
@@ -52,6 +53,6 @@ pub data InsertCase (s : List ℕ) (len : ℕ) (r : Record) : Outcome ℕ → Ty
   plot-open : ¬ (Closes (r .outline)) → InsertCase s len r (refused not-closed)
   plot-off : Closes (r .outline) → LeavesMap (InsideWalk (r .outline)) → InsertCase s len r (refused off-map)
   sheet-refused : {e : ℕ} → GoodOutline (r .outline) → CheckCase s len (refused e) → InsertCase s len r (refused e)
-  number-bad : {c : ℕ} → GoodSheet s len r c → BadNumber s len c r → InsertCase s len r (refused bad-number)
-  sheet-full : {c : ℕ} → GoodSheet s len r c → ¬ (BadNumber s len c r) → NoRoom s len → InsertCase s len r (refused no-room)
-  inserts : {c : ℕ} → GoodSheet s len r c → ¬ (BadNumber s len c r) → ¬ (NoRoom s len) → InsertCase s len r (accepted (len + record-length))
+  number-bad : {c : ℕ} → GoodSheet s len r c → BadNumber s len r → InsertCase s len r (refused bad-number)
+  sheet-full : {c : ℕ} → GoodSheet s len r c → ¬ (BadNumber s len r) → NoRoom s len → InsertCase s len r (refused no-room)
+  inserts : {c : ℕ} → GoodSheet s len r c → ¬ (BadNumber s len r) → ¬ (NoRoom s len) → InsertCase s len r (accepted (len + record-length))

@@ -1,75 +1,98 @@
-// A record from and to its bytes.
+// A record from and to its bytes, in the layout of its length.
 ghost use mathlib.Core.Path.{_≡_};
-ghost use Prim.Native.Nat.{_+_, _≤_, _<_};
+ghost use Prim.Native.Nat.{_+_, _^_, _≤_, _<_};
 ghost use lib.ListN.{length, getD};
 ghost use Rattle.records.specs.Parts.{part, splice};
-ghost use Rattle.sheet.specs.Layout.{«record-length», «outline-fields», «outline-from», decoded, encoded, Fits};
+ghost use Rattle.sheet.specs.Layout.{«layout-of», «outline-from», decoded, encoded, Fits};
+use crate::RECORD;
 use crate::Record;
 use crate::numbers::pack;
-use crate::numbers::to_signed;
-use crate::numbers::to_twos;
+use crate::numbers::read_number;
 use crate::numbers::unpack;
-use crate::rows::KEY_WIDTH;
+use crate::signed::to_signed;
+use crate::signed::to_twos;
 use outline::Outline;
 
-// The fields of a record and their widths in bytes: plot number, i and j, n0 to n7.
+// How many fields a record has: plot number, i and j, n0 to n7.
 const FIELDS: usize = 11;
 
-const WIDTHS: [usize; FIELDS] = [4, 2, 2, 2, 2, 2, 2, 2, 2, 2, 2];
+// Their widths in bytes, in a record of RECORD bytes.
+const LAYOUT: [usize; FIELDS] = [4, 2, 2, 2, 2, 2, 2, 2, 2, 2, 2];
 
-// The outline of the numbers in a record's fields after the first.
-fn outline_of(v: &[u32]) -> Outline
-    requires { ⌜ (length (now v) ≡ «outline-fields») × (getD (now v) 0 0 < 65536) × (getD (now v) 1 0 < 65536) ⌝ }
-    ensures { λ r. ⌜ r ≡ «outline-from» (now (v .entry)) ⌝ }
+// Their widths in a record of `each` bytes: all 0 where there are no such records.
+fn layout_of(each: usize) -> [usize; FIELDS]
+    ensures { λ r. ⌜ r ≡ «layout-of» each ⌝ }
+{
+    if each == RECORD { LAYOUT } else { [0; FIELDS] }
+}
+
+// The plot number of the record of `each` bytes at an index.
+pub fn number_at(s: &[u8], at: usize, each: usize) -> u32
+    requires { ⌜ at + each ≤ length (now s) ⌝ }
+    ensures { λ r. ⌜ r ≡ decoded («layout-of» each) (part (now (s .entry)) at each) .number ⌝ }
+{
+    let widths = layout_of(each);
+    read_number(s, at, widths[0])
+}
+
+// The outline of the numbers in a record's fields.
+fn outline_of(v: &[u32; FIELDS], widths: &[usize; FIELDS]) -> Outline
+    requires { ⌜ (getD (now widths) 1 0 ≤ 4) × (getD (now widths) 2 0 ≤ 4) ⌝ }
+    requires { ⌜ (getD (now v) 1 0 < 256 ^ getD (now widths) 1 0) × (getD (now v) 2 0 < 256 ^ getD (now widths) 2 0) ⌝ }
+    ensures { λ r. ⌜ r ≡ «outline-from» (now (widths .entry)) (now (v .entry)) ⌝ }
 {
     Outline {
-        i: to_signed(v[0]),
-        j: to_signed(v[1]),
-        n0: v[2],
-        n1: v[3],
-        n2: v[4],
-        n3: v[5],
-        n4: v[6],
-        n5: v[7],
-        n6: v[8],
-        n7: v[9],
+        i: to_signed(v[1], widths[1]),
+        j: to_signed(v[2], widths[2]),
+        n0: v[3],
+        n1: v[4],
+        n2: v[5],
+        n3: v[6],
+        n4: v[7],
+        n5: v[8],
+        n6: v[9],
+        n7: v[10],
     }
 }
 
-// The outline of the record at an index. The check alone calls it, on every record, so that it is compiled into that loop.
-pub fn outline_at(s: &[u8], at: usize) -> Outline
-    requires { ⌜ at + «record-length» ≤ length (now s) ⌝ }
-    ensures { λ r. ⌜ r ≡ decoded (part (now (s .entry)) at «record-length») .outline ⌝ }
+// The outline of the record of `each` bytes at an index. The check alone calls it, on every record, so that it is compiled into that
+// loop.
+pub fn outline_at(s: &[u8], at: usize, each: usize) -> Outline
+    requires { ⌜ at + each ≤ length (now s) ⌝ }
+    ensures { λ r. ⌜ r ≡ decoded («layout-of» each) (part (now (s .entry)) at each) .outline ⌝ }
 {
-    let mut v = [0u32; FIELDS - 1];
-    unpack(s, at + KEY_WIDTH, &WIDTHS[1..], &mut v);
-    outline_of(&v)
+    let widths = layout_of(each);
+    let mut v = [0u32; FIELDS];
+    unpack(s, at, &widths, &mut v);
+    outline_of(&v, &widths)
 }
 
-// The record at an index.
-pub fn record_at(s: &[u8], at: usize) -> Record
-    requires { ⌜ at + «record-length» ≤ length (now s) ⌝ }
-    ensures { λ r. ⌜ r ≡ decoded (part (now (s .entry)) at «record-length») ⌝ }
+// The record of `each` bytes at an index.
+pub fn record_at(s: &[u8], at: usize, each: usize) -> Record
+    requires { ⌜ at + each ≤ length (now s) ⌝ }
+    ensures { λ r. ⌜ r ≡ decoded («layout-of» each) (part (now (s .entry)) at each) ⌝ }
 {
+    let widths = layout_of(each);
     let mut v = [0u32; FIELDS];
-    unpack(s, at, &WIDTHS, &mut v);
+    unpack(s, at, &widths, &mut v);
     let number = v[0];
-    let outline = outline_of(&v[1..]);
+    let outline = outline_of(&v, &widths);
     Record { number, outline }
 }
 
-// Writes a record at an index.
-pub fn put_record(s: &mut [u8], at: usize, r: Record)
-    requires { ⌜ (at + «record-length» ≤ length (now s)) × Fits (r .outline) ⌝ }
-    ensures { λ _. ⌜ now (s .exit) ≡ splice (now (s .entry)) at (encoded r) ⌝ }
+// Writes a record into the `each` bytes at an index.
+pub fn put_record(s: &mut [u8], at: usize, each: usize, r: Record)
+    requires { ⌜ (at + each ≤ length (now s)) × Fits («layout-of» each) r ⌝ }
+    ensures { λ _. ⌜ now (s .exit) ≡ splice (now (s .entry)) at (encoded («layout-of» each) r) ⌝ }
 {
+    let widths = layout_of(each);
     let o = r.outline;
     let i = o.i;
     let j = o.j;
     let v = [
         r.number,
-        to_twos(i),
-        to_twos(j),
+        to_twos(i, widths[1]),
+        to_twos(j, widths[2]),
         o.n0,
         o.n1,
         o.n2,
@@ -79,5 +102,5 @@ pub fn put_record(s: &mut [u8], at: usize, r: Record)
         o.n6,
         o.n7,
     ];
-    pack(s, at, &WIDTHS, &v);
+    pack(s, at, &widths, &v);
 }

@@ -1,85 +1,101 @@
-// One record more in a sheet that was checked.
+// One record more in a sheet.
 ghost use mathlib.Core.Path.{_≡_};
-ghost use Prim.Native.Nat.{_+_, _*_, _≤_, _<_};
+ghost use Prim.Native.Nat.{_+_, _*_, _≤_};
 ghost use lib.ListN.{length};
 ghost use Rattle.octagon.specs.Outcome.{accepted, «then», left};
-ghost use Rattle.sheet.specs.Answers.{«count-outcome», «length-outcome»};
-ghost use Rattle.sheet.specs.Layout.{«record-length», «sheet-limit», encoded, Fits};
-ghost use Rattle.sheet.specs.Checking.{HoldsRecords};
-ghost use Rattle.sheet.specs.Writing.{admitted, vetted, grown};
+ghost use Rattle.records.specs.Parts.{splice};
+ghost use Rattle.sheet.specs.Answers.{«length-outcome»};
+ghost use Rattle.sheet.specs.Layout.{«record-length», «layout-of», Fits};
+ghost use Rattle.sheet.specs.Trailer.{«trailer-length»};
+ghost use Rattle.sheet.specs.Order.{All, «put-in-order»};
+ghost use Rattle.sheet.specs.Sheets.{«sheet-limit», «plots-from», «records-bytes», «sheet-length», «sheet-of»};
+ghost use Rattle.sheet.specs.Checking.{inspected, parsed};
+ghost use Rattle.sheet.specs.Writing.{«written-over», «written-length», admitted, «with-plot»};
 use crate::BAD_NUMBER;
-use crate::Checked;
 use crate::LIMIT;
 use crate::NO_ROOM;
 use crate::RECORD;
 use crate::Record;
 use crate::TRAILER;
 use crate::Written;
-use crate::check;
+use crate::checking::inspect;
 use crate::encoding::put_record;
 use crate::rows::has_number;
+use crate::rows::move_records;
 use crate::rows::rank_of;
-use crate::rows::shift_up;
+use crate::trailer::Framed;
+use crate::trailer::Trailer;
 use crate::trailer::put_trailer;
 
-// Whether a record with the number v may go into a sheet of c records, and c. Refuses the number 0 or one that is there, then
-// a sheet that has no room.
-pub fn admit(sheet: &[u8], len: usize, v: u32, c: u32) -> Checked
-    requires { ⌜ HoldsRecords (now sheet) len c ⌝ }
-    ensures { λ r. ⌜ «count-outcome» r ≡ admitted (now (sheet .entry)) len v c ⌝ }
+// The length that a sheet with the trailer z has with the record r. Refuses the number 0 or one that is there, then a sheet that has
+// no room.
+fn admit(sheet: &[u8], len: usize, z: Trailer, r: Record) -> Written
+    requires { ⌜ inspected (now sheet) len ≡ accepted z ⌝ }
+    ensures { λ a. ⌜ «length-outcome» a ≡ «then» (admitted (now (sheet .entry)) r («sheet-of» (now (sheet .entry)) len z)) (λ y. accepted («written-length» y)) ⌝ }
 {
-    let count = c as usize;
-    let first = len - TRAILER - RECORD * count;
+    let first = len - TRAILER - (z.distance as usize);
+    let count = z.count as usize;
+    let v = r.number;
     if (v == 0) | has_number(sheet, first, count, RECORD, v) {
-        return Checked::Refused(BAD_NUMBER);
+        return Written::Refused(BAD_NUMBER);
     }
-    let next = len + RECORD;
+    let next = first + RECORD * (count + 1) + TRAILER;
     if (sheet.len() < next) | (LIMIT < next) {
-        return Checked::Refused(NO_ROOM);
+        return Written::Refused(NO_ROOM);
     }
-    Checked::Count(c)
+    Written::Length(next)
 }
 
-// Puts a record in its place among c records, and the trailer after them.
-pub fn grow(sheet: &mut [u8], len: usize, c: u32, r: Record)
-    requires { ⌜ HoldsRecords (now sheet) len c × (len + «record-length» ≤ length (now sheet)) × (len + «record-length» ≤ «sheet-limit») ⌝ }
-    requires { ⌜ Fits (r .outline) ⌝ }
-    ensures { λ _. ⌜ now (sheet .exit) ≡ grown (now (sheet .entry)) len c (encoded r) ⌝ }
-{
-    let count = c as usize;
-    let end = len - TRAILER;
-    let first = end - RECORD * count;
-    let v = r.number;
-    let k = rank_of(sheet, first, count, RECORD, v);
-    let at = first + RECORD * k;
-    shift_up(sheet, at, end, RECORD);
-    put_record(sheet, at, r);
-    put_trailer(sheet, end + RECORD, c + 1);
-}
-
-// How many records a sheet has, where it may take one with the number v. The refusals of the check, and then those of `admit`.
-fn vet(sheet: &[u8], len: usize, v: u32) -> Checked
-    ensures { λ r. ⌜ «count-outcome» r ≡ vetted (now (sheet .entry)) len v ⌝ }
-{
-    let found = check(sheet, len);
-    let Checked::Count(c) = found else {
-        return found;
-    };
-    admit(sheet, len, v, c)
-}
-
-// Inserts a record whose outline is accepted.
-pub fn insert_traced(sheet: &mut [u8], len: usize, r: Record) -> Written
-    requires { ⌜ Fits (r .outline) ⌝ }
-    ensures { λ a. ⌜ «length-outcome» a ≡ «then» (vetted (now (sheet .entry)) len (r .number)) (λ _. accepted (len + «record-length»)) ⌝ }
-    ensures { λ a. ⌜ now (sheet .exit) ≡ left (now (sheet .entry)) (vetted (now (sheet .entry)) len (r .number)) (λ c. grown (now (sheet .entry)) len c (encoded r)) ⌝ }
+// Writes the `count` records of `each` bytes from index `at` on anew, with r in its place among them, and their trailer.
+fn put_sheet(s: &mut [u8], at: usize, count: usize, each: usize, r: Record)
+    requires { ⌜ (each ≤ «record-length») × (at + «record-length» * (count + 1) + «trailer-length» ≤ length (now s)) ⌝ }
+    requires { ⌜ at + «record-length» * (count + 1) + «trailer-length» ≤ «sheet-limit» ⌝ }
+    requires { ⌜ All (Fits («layout-of» «record-length»)) («plots-from» each (now s) at count) × Fits («layout-of» «record-length») r ⌝ }
+    ensures { λ _. ⌜ now (s .exit) ≡ splice (now (s .entry)) at («records-bytes» «record-length» («put-in-order» r («plots-from» each (now (s .entry)) at count))) ⌝ }
 {
     let v = r.number;
-    match vet(sheet, len, v) {
-        Checked::Refused(e) => Written::Refused(e),
-        Checked::Count(c) => {
-            grow(sheet, len, c, r);
-            Written::Length(len + RECORD)
+    let k = rank_of(s, at, count, each, v);
+    let here = at + RECORD * k;
+    move_records(s, at + each * k, count - k, each, here + RECORD, RECORD);
+    move_records(s, at, k, each, at, RECORD);
+    put_record(s, here, RECORD, r);
+    let all = count + 1;
+    put_trailer(s, at + RECORD * all, RECORD as u32, all as u32);
+}
+
+// Puts r in its place among the records of a sheet with the trailer z, and the trailer after them.
+fn grow(sheet: &mut [u8], len: usize, z: Trailer, r: Record)
+    requires { ⌜ (inspected (now sheet) len ≡ accepted z) × Fits («layout-of» «record-length») r ⌝ }
+    requires { ⌜ («sheet-length» «record-length» («with-plot» r («sheet-of» (now sheet) len z)) ≤ length (now sheet)) × («sheet-length» «record-length» («with-plot» r («sheet-of» (now sheet) len z)) ≤ «sheet-limit») ⌝ }
+    ensures { λ _. ⌜ now (sheet .exit) ≡ «written-over» (now (sheet .entry)) («with-plot» r («sheet-of» (now (sheet .entry)) len z)) ⌝ }
+{
+    let first = len - TRAILER - (z.distance as usize);
+    put_sheet(sheet, first, z.count as usize, RECORD, r);
+}
+
+// Inserts a record that fits into a sheet that was inspected.
+fn insert_inspected(sheet: &mut [u8], len: usize, z: Trailer, r: Record) -> Written
+    requires { ⌜ (inspected (now sheet) len ≡ accepted z) × Fits («layout-of» «record-length») r ⌝ }
+    ensures { λ a. ⌜ «length-outcome» a ≡ «then» (admitted (now (sheet .entry)) r («sheet-of» (now (sheet .entry)) len z)) (λ y. accepted («written-length» y)) ⌝ }
+    ensures { λ a. ⌜ now (sheet .exit) ≡ left (now (sheet .entry)) (admitted (now (sheet .entry)) r («sheet-of» (now (sheet .entry)) len z)) («written-over» (now (sheet .entry))) ⌝ }
+{
+    match admit(sheet, len, z, r) {
+        Written::Refused(e) => Written::Refused(e),
+        Written::Length(n) => {
+            grow(sheet, len, z, r);
+            Written::Length(n)
         }
+    }
+}
+
+// Inserts a record that fits. The refusals of the check, and then those of `admit`.
+pub fn insert_fitting(sheet: &mut [u8], len: usize, r: Record) -> Written
+    requires { ⌜ Fits («layout-of» «record-length») r ⌝ }
+    ensures { λ a. ⌜ «length-outcome» a ≡ «then» («then» (parsed (now (sheet .entry)) len) (admitted (now (sheet .entry)) r)) (λ y. accepted («written-length» y)) ⌝ }
+    ensures { λ a. ⌜ now (sheet .exit) ≡ left (now (sheet .entry)) («then» (parsed (now (sheet .entry)) len) (admitted (now (sheet .entry)) r)) («written-over» (now (sheet .entry))) ⌝ }
+{
+    match inspect(sheet, len) {
+        Framed::Refused(e) => Written::Refused(e),
+        Framed::Trailer(z) => insert_inspected(sheet, len, z, r),
     }
 }

@@ -1,20 +1,23 @@
 // Sheets of plots in lent buffers: a heading, records by rising plot number, and a trailer.
 //
-// specs/Layout.antt has the bytes of a record and of a trailer, specs/Bytes.antt the place of each field; specs/Checking.antt what
-// `check`, `fetch` and `read` answer, specs/Cases.antt when each of these answers is given; specs/Writing.antt what `start` and `insert`
-// answer and leave, specs/WritingCases.antt when each of their answers is given.
+// specs/Sheets.antt has what a sheet says and its bytes, specs/Order.antt the order of its records, specs/Layout.antt the bytes of a
+// record and specs/Trailer.antt those of a trailer, specs/Bytes.antt the place of each field; specs/Checking.antt what `check`, `fetch`
+// and `read` answer, specs/Cases.antt when each of these answers is given; specs/Writing.antt what `start` and `insert` answer and
+// leave, specs/WritingCases.antt when each of their answers is given.
 ghost use mathlib.Core.Path.{_≡_};
 ghost use Rattle.sheet.specs.Answers.{«count-outcome», «record-outcome», «length-outcome»};
 ghost use Rattle.sheet.specs.Checking.{checked, fetched, read as «read-of»};
 ghost use Rattle.sheet.specs.Writing.{started, «after-start», inserted, «after-insert»};
 use octagon::Answer;
 use outline::Outline;
+use trailer::Framed;
 
 mod checking;
 mod encoding;
 mod inserting;
 mod numbers;
 mod rows;
+mod signed;
 mod trailer;
 
 // A plot: its number and its outline.
@@ -66,11 +69,10 @@ pub const NO_RECORD: u32 = 13;
 pub fn check(sheet: &[u8], len: usize) -> Checked
     ensures { λ r. ⌜ «count-outcome» r ≡ checked (now (sheet .entry)) len ⌝ }
 {
-    let stated = trailer::frame(sheet, len);
-    let Checked::Count(c) = stated else {
-        return stated;
-    };
-    checking::survey(sheet, len - TRAILER - RECORD * (c as usize), c)
+    match checking::inspect(sheet, len) {
+        Framed::Refused(e) => Checked::Refused(e),
+        Framed::Trailer(z) => Checked::Count(z.count),
+    }
 }
 
 // Record k, counted from 0. The refusals of the check, and then k not below the count.
@@ -99,7 +101,7 @@ pub fn read(sheet: &[u8], len: usize, count: u32, k: u32) -> Fetched
     if count <= k {
         return Fetched::Refused(NO_RECORD);
     }
-    Fetched::Record(encoding::record_at(sheet, end - distance + RECORD * (k as usize)))
+    Fetched::Record(encoding::record_at(sheet, end - distance + RECORD * (k as usize), RECORD))
 }
 
 // Starts a sheet of no records after `heading` bytes, and answers its length. Refuses a sheet that is too long, then one that
@@ -114,7 +116,7 @@ pub fn start(sheet: &mut [u8], heading: usize) -> Written
     if sheet.len() < next {
         return Written::Refused(NO_ROOM);
     }
-    trailer::put_trailer(sheet, heading, 0);
+    trailer::put_trailer(sheet, heading, RECORD as u32, 0);
     Written::Length(next)
 }
 
@@ -126,6 +128,6 @@ pub fn insert(sheet: &mut [u8], len: usize, r: Record) -> Written
     let o = r.outline;
     match outline::to_octagon(o) {
         Answer::Refused(e) => Written::Refused(e),
-        Answer::Octagon(_) => inserting::insert_traced(sheet, len, r),
+        Answer::Octagon(_) => inserting::insert_fitting(sheet, len, r),
     }
 }

@@ -3,9 +3,7 @@ ghost use mathlib.Core.Path.{_≡_};
 ghost use mathlib.Core.Bool.{true};
 ghost use Prim.Native.Nat.{_+_, _≤_, _<_};
 ghost use lib.ListN.{length, getD, drop};
-ghost use mir.Val.{SFits};
-ghost use mir.Syntax.{w16};
-ghost use Rattle.records.specs.Numbers.{number, bytes, signed, twos, «total-width», packed, unpacked, narrow};
+ghost use Rattle.records.specs.Numbers.{number, bytes, «total-width», packed, unpacked, narrow};
 ghost use Rattle.records.specs.Parts.{part, splice};
 
 // One byte as a number.
@@ -74,20 +72,4 @@ pub fn pack(s: &mut [u8], at: usize, widths: &[usize], values: &[u32])
         p += w;
         k += 1;
     }
-}
-
-// The signed number of two bytes, in two's complement.
-pub fn to_signed(v: u32) -> i32
-    requires { ⌜ v < 65536 ⌝ }
-    ensures { λ r. ⌜ r ≡ signed 2 v ⌝ }
-{
-    (((v + 32768) % 65536) as i32) - 32768
-}
-
-// The two bytes of a signed number, as a number.
-pub fn to_twos(x: i32) -> u32
-    requires { ⌜ SFits w16 x ⌝ }
-    ensures { λ r. ⌜ r ≡ twos 2 x ⌝ }
-{
-    if x < 0 { (x + 65536) as u32 } else { x as u32 }
 }

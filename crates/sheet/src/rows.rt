@@ -1,65 +1,90 @@
-// Records of one length in a lent buffer, by the plot number that each begins with.
+// Records in a lent buffer, one after the other: a number among theirs, and records that are moved up.
 ghost use mathlib.Core.Path.{_≡_};
 ghost use Prim.Native.Nat.{_+_, _*_, _≤_};
 ghost use lib.ListN.{length};
-ghost use Rattle.records.specs.Numbers.{number};
-ghost use Rattle.records.specs.Parts.{part, shifted};
-ghost use Rattle.records.specs.Rows.{records, «key-width», present, rank};
-use crate::numbers::read_number;
+ghost use Rattle.records.specs.Parts.{part, splice};
+ghost use Rattle.sheet.specs.Layout.{«layout-of», HasLayout, Fits};
+ghost use Rattle.sheet.specs.Order.{All, present, rank};
+ghost use Rattle.sheet.specs.Sheets.{«plots-from», «rows-bytes»};
+use crate::encoding::number_at;
+use crate::encoding::put_record;
+use crate::encoding::record_at;
 
-// The bytes of a plot number.
-pub const KEY_WIDTH: usize = 4;
-
-// The plot number of the record at an index.
-pub fn key_at(s: &[u8], at: usize) -> u32
-    requires { ⌜ at + «key-width» ≤ length (now s) ⌝ }
-    ensures { λ r. ⌜ r ≡ number (part (now (s .entry)) at «key-width») ⌝ }
-{
-    read_number(s, at, KEY_WIDTH)
-}
-
-// Whether one of `count` records of `width` bytes each has the number v.
-pub fn has_number(s: &[u8], first: usize, count: usize, width: usize, v: u32) -> bool
-    requires { ⌜ («key-width» ≤ width) × (first + width * count ≤ length (now s)) ⌝ }
-    ensures { λ r. ⌜ r ≡ present v (records width (now (s .entry)) first count) ⌝ }
+// Whether one of `count` records of `each` bytes has the number v.
+pub fn has_number(s: &[u8], first: usize, count: usize, each: usize, v: u32) -> bool
+    requires { ⌜ first + each * count ≤ length (now s) ⌝ }
+    ensures { λ r. ⌜ r ≡ present v («plots-from» each (now (s .entry)) first count) ⌝ }
 {
     let mut p = first;
     let mut left = count;
     while 0 < left {
-        if key_at(s, p) == v {
+        if number_at(s, p, each) == v {
             return true;
         }
-        p += width;
+        p += each;
         left -= 1;
     }
     false
 }
 
 // How many of these records stand before the first whose number is not below v.
-pub fn rank_of(s: &[u8], first: usize, count: usize, width: usize, v: u32) -> usize
-    requires { ⌜ («key-width» ≤ width) × (first + width * count ≤ length (now s)) ⌝ }
-    ensures { λ r. ⌜ (r ≡ rank v (records width (now (s .entry)) first count)) × (r ≤ count) ⌝ }
+pub fn rank_of(s: &[u8], first: usize, count: usize, each: usize, v: u32) -> usize
+    requires { ⌜ first + each * count ≤ length (now s) ⌝ }
+    ensures { λ r. ⌜ (r ≡ rank v («plots-from» each (now (s .entry)) first count)) × (r ≤ count) ⌝ }
 {
     let mut p = first;
     let mut k = 0;
     while k < count {
-        if v <= key_at(s, p) {
+        if v <= number_at(s, p, each) {
             return k;
         }
-        p += width;
+        p += each;
         k += 1;
     }
     k
 }
 
-// Moves the bytes from index `from` up to `to` up by `gap`.
-pub fn shift_up(s: &mut [u8], from: usize, to: usize, gap: usize)
-    requires { ⌜ (from ≤ to) × (to + gap ≤ length (now s)) ⌝ }
-    ensures { λ _. ⌜ now (s .exit) ≡ shifted (now (s .entry)) from to gap ⌝ }
+// Moves `count` bytes from index `from` on up to index `to`, the last byte first.
+fn move_bytes(s: &mut [u8], from: usize, count: usize, to: usize)
+    requires { ⌜ (from ≤ to) × (to + count ≤ length (now s)) ⌝ }
+    ensures { λ _. ⌜ now (s .exit) ≡ splice (now (s .entry)) to (part (now (s .entry)) from count) ⌝ }
 {
-    let mut i = to;
-    while from < i {
+    let mut i = count;
+    while 0 < i {
         i -= 1;
-        s[i + gap] = s[i];
+        s[to + i] = s[from + i];
+    }
+}
+
+// Reads `count` records of `each` bytes from index `from` on, and writes them with `wide` bytes each from index `to` on, the last
+// record first, so that each is read before its bytes are written over.
+fn recode(s: &mut [u8], from: usize, count: usize, each: usize, to: usize, wide: usize)
+    requires { ⌜ (from ≤ to) × (each ≤ wide) × (to + wide * count ≤ length (now s)) ⌝ }
+    requires { ⌜ HasLayout wide × All (Fits («layout-of» wide)) («plots-from» each (now s) from count) ⌝ }
+    ensures { λ _. ⌜ now (s .exit) ≡ splice (now (s .entry)) to («rows-bytes» wide («plots-from» each (now (s .entry)) from count)) ⌝ }
+{
+    let mut p = from + each * count;
+    let mut q = to + wide * count;
+    let mut left = count;
+    while 0 < left {
+        p -= each;
+        q -= wide;
+        left -= 1;
+        put_record(s, q, wide, record_at(s, p, each));
+    }
+}
+
+// The same. Records that keep their length keep their bytes.
+pub fn move_records(s: &mut [u8], from: usize, count: usize, each: usize, to: usize, wide: usize)
+    requires { ⌜ (from ≤ to) × (each ≤ wide) × (to + wide * count ≤ length (now s)) ⌝ }
+    requires { ⌜ HasLayout wide × All (Fits («layout-of» wide)) («plots-from» each (now s) from count) ⌝ }
+    ensures { λ _. ⌜ now (s .exit) ≡ splice (now (s .entry)) to («rows-bytes» wide («plots-from» each (now (s .entry)) from count)) ⌝ }
+{
+    if each != wide {
+        recode(s, from, count, each, to, wide);
+        return;
+    }
+    if from < to {
+        move_bytes(s, from, each * count, to);
     }
 }

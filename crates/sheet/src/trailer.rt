@@ -1,22 +1,21 @@
 // The trailer that ends a sheet.
 ghost use mathlib.Core.Path.{_≡_};
-ghost use Prim.Native.Nat.{_+_, _*_, _≤_};
+ghost use Prim.Native.Nat.{_+_, _*_, _≤_, _<_};
 ghost use lib.ListN.{length};
 ghost use Rattle.records.specs.Parts.{splice};
-ghost use Rattle.sheet.specs.Answers.{«count-outcome»};
-ghost use Rattle.sheet.specs.Layout.{«record-length», «trailer-length», trailer, «trailer-at»};
+ghost use Rattle.sheet.specs.Answers.{«trailer-outcome»};
+ghost use Rattle.sheet.specs.Trailer.{«trailer-length», trailer, «trailer-at»};
 ghost use Rattle.sheet.specs.Checking.{«is-bad-length», stated, framed};
 use crate::BAD_DISTANCE;
 use crate::BAD_LENGTH;
 use crate::BAD_TRAILER;
-use crate::Checked;
 use crate::LIMIT;
 use crate::RECORD;
 use crate::TRAILER;
 use crate::numbers::pack;
 use crate::numbers::unpack;
 
-// The numbers in a trailer.
+// The numbers in a trailer: its records' distance in bytes, their count and the length of each, zero bytes, letters.
 pub struct Trailer {
     pub distance: u32,
     pub count: u32,
@@ -25,7 +24,13 @@ pub struct Trailer {
     pub letters: u32,
 }
 
-// Their widths in bytes.
+// The trailer of a sheet, or the number of the refusal.
+pub enum Framed {
+    Trailer(Trailer),
+    Refused(u32),
+}
+
+// How many numbers a trailer has, and their widths in bytes.
 const FIELDS: usize = 5;
 
 const WIDTHS: [usize; FIELDS] = [4, 4, 2, 2, 4];
@@ -50,30 +55,30 @@ fn read_trailer(s: &[u8], at: usize) -> Trailer
     }
 }
 
-// Writes the trailer of `count` records at an index.
-pub fn put_trailer(s: &mut [u8], at: usize, count: u32)
-    requires { ⌜ (at + «trailer-length» ≤ length (now s)) × («record-length» * count ≤ 4294967295) ⌝ }
-    ensures { λ _. ⌜ now (s .exit) ≡ splice (now (s .entry)) at (trailer count) ⌝ }
+// Writes the trailer of `count` records of `each` bytes at an index.
+pub fn put_trailer(s: &mut [u8], at: usize, each: u32, count: u32)
+    requires { ⌜ (at + «trailer-length» ≤ length (now s)) × (each * count ≤ 4294967295) ⌝ }
+    ensures { λ _. ⌜ now (s .exit) ≡ splice (now (s .entry)) at (trailer each count) ⌝ }
 {
-    let v = [(RECORD as u32) * count, count, RECORD as u32, 0, LETTERS];
+    let v = [each * count, count, each, 0, LETTERS];
     pack(s, at, &WIDTHS, &v);
 }
 
-// The count that a trailer states for a sheet of `len` bytes. Refuses wrong marks, then a wrong distance.
-fn state(z: Trailer, len: usize) -> Checked
+// A trailer that is right for a sheet of `len` bytes. Refuses wrong marks, then a wrong distance.
+fn state(z: Trailer, len: usize) -> Framed
     requires { ⌜ «trailer-length» ≤ len ⌝ }
-    ensures { λ r. ⌜ «count-outcome» r ≡ stated len z ⌝ }
+    ensures { λ r. ⌜ «trailer-outcome» r ≡ stated len z ⌝ }
 {
     let distance = z.distance as usize;
-    let count = z.count;
+    let count = z.count as usize;
     let length = z.length as usize;
     if (length != RECORD) | (z.zeros != 0) | (z.letters != LETTERS) {
-        return Checked::Refused(BAD_TRAILER);
+        return Framed::Refused(BAD_TRAILER);
     }
-    if (distance != RECORD * (count as usize)) | (len - TRAILER < distance) {
-        return Checked::Refused(BAD_DISTANCE);
+    if (distance != length * count) | (len - TRAILER < distance) {
+        return Framed::Refused(BAD_DISTANCE);
     }
-    Checked::Count(count)
+    Framed::Trailer(z)
 }
 
 // Whether no sheet in this buffer can have `len` bytes: fewer than a trailer, more than the limit, or more than the buffer.
@@ -83,12 +88,12 @@ pub fn is_bad_length(sheet: &[u8], len: usize) -> bool
     (len < TRAILER) | (LIMIT < len) | (sheet.len() < len)
 }
 
-// The count that the trailer of a sheet states. Refuses a wrong length first.
-pub fn frame(sheet: &[u8], len: usize) -> Checked
-    ensures { λ r. ⌜ «count-outcome» r ≡ framed (now (sheet .entry)) len ⌝ }
+// The trailer of a sheet. Refuses a wrong length first.
+pub fn frame(sheet: &[u8], len: usize) -> Framed
+    ensures { λ r. ⌜ «trailer-outcome» r ≡ framed (now (sheet .entry)) len ⌝ }
 {
     if is_bad_length(sheet, len) {
-        return Checked::Refused(BAD_LENGTH);
+        return Framed::Refused(BAD_LENGTH);
     }
     state(read_trailer(sheet, len - TRAILER), len)
 }

@@ -4,7 +4,7 @@ use borrow.Author.Needs.{needs}
 use Rattle.octagon.specs.Outcome.{accepted}
 use Rattle.sheet.specs.Answers.{count-outcome}
 use Rattle.sheet.specs.Checking.{checked}
-use Rattle.sheet.proofs.Checks.{fetched-refused}
+use Rattle.sheet.proofs.FetchCases.{not-fetched}
 use Rattle.sheet.proofs.ReadCases.{read-checked}
 use Rattle.sheet.proofs.fetch.Statement.{statement}
 use Rattle.sheet.proofs.fetch.Tie as tie
@@ -17,7 +17,7 @@ returns : tie.Need-returns
 returns c =
     let k = c .before .before .before in
     let a = k .before .before .args in
-    sym (fetched-refused (a .sheet .now) (a .len) (a .k) (sym (k .check .ensures) ∙ ap count-outcome (c .before .e .given .1)))
+    sym (not-fetched (a .sheet .now) (a .len) (a .k) _ (sym (k .check .ensures) ∙ ap count-outcome (c .before .e .given .1)))
 
 returns-2 : tie.Need-returns-2
 returns-2 c =

@@ -1,5 +1,6 @@
 -- `insert` meets its contract. Assumes nothing.
 use mathlib.Core.Path.{_≡_, sym, ap, _∙_}
+use native.Mathlib.Omega.{arith}
 use borrow.Author.Needs.{needs}
 use Rattle.octagon.specs.declared.Octagon.{Octagon}
 use Rattle.octagon.specs.Outcome.{accepted}
@@ -21,11 +22,12 @@ answer-step c = c .before .before
 octagon : (c : tie.After-enum-told) → (o : Octagon) × (traced (start-of (answer-step c) .args .r .outline) ≡ accepted o)
 octagon c = (_, sym (answer-step c .to-octagon .ensures) ∙ ap outcome (c .enum-told .given .1))
 
-insert-traced-requires : tie.Need-insert-traced-requires
-insert-traced-requires c κs =
+insert-fitting-requires : tie.Need-insert-fitting-requires
+insert-fitting-requires c κs =
     let at-octagon = c .before in
+    let s = start-of (answer-step at-octagon) in
     let o = octagon at-octagon in
-    accepted-fits (start-of (answer-step at-octagon) .args .r .outline) (o .0) (o .1)
+    accepted-fits (s .args .r) (o .0) (omega (arith, s .good)) (o .1)
 
 returns : tie.Need-returns
 returns c =
@@ -38,7 +40,7 @@ returns-2 c =
     let at-insert = c .before .before in
     let at-octagon = at-insert .before .before in
     let a = start-of (answer-step at-octagon) .args in
-    let t = at-insert .insert-traced .ensures in
+    let t = at-insert .insert-fitting .ensures in
     let e = insert-sheet (a .sheet .now) (a .len) (a .r) (octagon at-octagon .1) in
     (t .0 ∙ e .0, t .1 ∙ e .1)
 
@@ -49,7 +51,7 @@ insert-spec =
     (λ c κs. search needs)
     (λ c. search needs)
     (λ c. search needs)
-    insert-traced-requires
+    insert-fitting-requires
     returns
     (λ c. search needs)
     returns-2)

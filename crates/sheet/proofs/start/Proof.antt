@@ -2,7 +2,7 @@
 use mathlib.Core.Path.{_∙_}
 use native.Mathlib.Omega.{arith}
 use borrow.Author.Needs.{needs}
-use Rattle.sheet.proofs.Starts.{start-long, start-full, start-made}
+use Rattle.sheet.proofs.Starts.{start-long, start-full, start-made, start-trailer}
 use Rattle.sheet.proofs.start.Statement.{statement}
 use Rattle.sheet.proofs.start.Tie as tie
 
@@ -18,7 +18,7 @@ returns-3 c =
     let at-room = at-trailer .before .before in
     let a = at-room .before .before .before .args in
     let m = start-made (a .sheet .now) (a .heading) (omega arith) (omega arith) in
-    (m .0, at-trailer .put-trailer .ensures ∙ m .1)
+    (m .0, at-trailer .put-trailer .ensures ∙ start-trailer (a .sheet .now) (a .heading) (omega arith) ∙ m .1)
 
 pub start-spec : {M : Type 1} → statement M
 start-spec =
@@ -28,6 +28,7 @@ start-spec =
     returns
     (λ c. search needs)
     returns-2
+    (λ c. search needs)
     (λ c κs. search needs)
     (λ c. search needs)
     returns-3)

@@ -5,15 +5,16 @@ use Prim.Native.Nat.{ℕ}
 use native.Mathlib.Omega.{arith}
 use lib.ListN.{length}
 use Rattle.sheet.specs.declared.Record.{Record}
+use Rattle.sheet.specs.Checking.{plots}
 use Rattle.report.specs.Lines.{heading-line, last-line}
-use Rattle.report.specs.Listing.{plots, rows-of, total-cells, full}
+use Rattle.report.specs.Listing.{rows-of, total-cells, full}
 use Rattle.report.proofs.Writing.{put-length, ToPut, to-put-parts, to-put-more, to-put-room}
-use Rattle.report.proofs.Plots.{length-plots}
+use Rattle.report.proofs.Plots.{plots-counted}
 use Rattle.report.proofs.rows.put_all.Statement.{statement}
 use Rattle.report.proofs.rows.put_all.Tie as tie
 
 abbrev rs : tie.Start → List Record
-rs c = let a = c .args in plots (a .sheet .now) (a .len) (a .c)
+rs c = let a = c .args in plots (a .sheet .now) (a .len)
 
 parts : (rs : List Record) (c : ℕ) → length rs ≡ c → full rs ≡ heading-line ++ (rows-of rs ++ last-line c (total-cells rs))
 unfolding full
@@ -31,7 +32,7 @@ to-put0 : (c : tie.Start) →
     ToPut (c .args .text .now) 0 (full (rs c)) (c .args .text .now) 0 (heading-line ++ (rows-of (rs c) ++ last-line (c .args .c) (total-cells (rs c))))
 to-put0 c =
     let a = c .args in
-    to-put-parts (a .text .now) 0 (full (rs c)) _ (parts (rs c) (a .c) (length-plots (a .sheet .now) (a .len) (a .c))) (omega (arith, c .pre .1))
+    to-put-parts (a .text .now) 0 (full (rs c)) _ (parts (rs c) (a .c) (plots-counted (a .sheet .now) (a .len) (a .c) (c .pre .0))) (omega (arith, c .pre .1))
 
 to-put1 : (c : tie.After-put-heading) → let e = start1 c in
     ToPut (e .args .text .now) 0 (full (rs e)) (c .put-heading .last .0) (c .put-heading .result) (rows-of (rs e) ++ last-line (e .args .c) (total-cells (rs e)))

@@ -9,17 +9,17 @@ use Rattle.octagon.specs.Outcome.{accepted}
 use Rattle.octagon.proofs.Outcomes.{accepted-same, accepted-not-refused}
 use Rattle.sheet.specs.declared.Record.{Record}
 use Rattle.sheet.specs.Answers.{record-outcome}
-use Rattle.sheet.specs.Checking.{read}
+use Rattle.sheet.specs.Checking.{plots, read}
 use Rattle.sheet.proofs.ReadCases.{read-checked}
-use Rattle.report.specs.Listing.{plots, rows-of, total-cells}
+use Rattle.report.specs.Listing.{rows-of, total-cells}
 use Rattle.report.proofs.Writing.{put-length, put-nothing, ToPut, to-put-all}
-use Rattle.report.proofs.Plots.{plot, length-plots, fetched-plot, total-cells-most, rest, row-room, row-more, total-cells-more, rest-end, total-cells-end}
+use Rattle.report.proofs.Plots.{plot, plots-counted, plot-fetched, total-cells-most, rest, row-room, row-more, total-cells-more, rest-end, total-cells-end}
 use Rattle.report.proofs.rows.put_rows.Statement.{statement}
 use Rattle.report.proofs.rows.put_rows.Tie as tie
 
 abbrev Inv-loop : tie.InvT-loop
 Inv-loop sheet len c text₀ at next₀ sum₀ k₀ text next sum k =
-    (k ≤ c) × ToPut text₀ at (rows-of (plots sheet len c)) text next (rest (plots sheet len c) k) × (sum + total-cells (drop k (plots sheet len c)) ≡ total-cells (plots sheet len c))
+    (k ≤ c) × ToPut text₀ at (rows-of (plots sheet len)) text next (rest (plots sheet len) k) × (sum + total-cells (drop k (plots sheet len)) ≡ total-cells (plots sheet len))
 
 abbrev μ-loop : tie.MeasureT-loop
 μ-loop sheet len c text₀ at next₀ sum₀ k₀ text next sum k = c - k
@@ -29,10 +29,10 @@ loop-holds c = let a = c .before .before .args in (omega arith, to-put-all (a .t
 
 -- the plots, and the record that is read in a turn
 abbrev rs : tie.At-loop Inv-loop μ-loop → List Record
-rs c = let a = c .before .before .before .args in plots (a .sheet .now) (a .len) (a .c)
+rs c = let a = c .before .before .before .args in plots (a .sheet .now) (a .len)
 
 many : (c : tie.At-loop Inv-loop μ-loop) → length (rs c) ≡ c .before .before .before .args .c
-many c = let a = c .before .before .before .args in length-plots (a .sheet .now) (a .len) (a .c)
+many c = let a = c .before .before .before .args in plots-counted (a .sheet .now) (a .len) (a .c) (c .before .before .before .pre .0)
 
 answer : (c : tie.In-loop Inv-loop μ-loop) → let a = c .before .before .before .before .args in
     read (a .sheet .now) (a .len) (a .c) (c .before .loop .k) ≡ accepted (plot (rs (c .before)) (c .before .loop .k))
@@ -40,7 +40,7 @@ answer c =
     let e = c .before .before .before .before in
     let a = e .args in
     let k = c .before .loop .k in
-    read-checked (a .sheet .now) (a .len) (a .c) k (e .pre .0) ∙ fetched-plot (a .sheet .now) (a .len) (a .c) k (e .pre .0) (c .loop-test .taken)
+    read-checked (a .sheet .now) (a .len) (a .c) k (e .pre .0) ∙ plot-fetched (a .sheet .now) (a .len) (a .c) k (e .pre .0) (c .loop-test .taken)
 
 -- no record of a checked sheet is refused
 not-refused : (c : tie.After-enum-told Inv-loop μ-loop) → ⊥

@@ -8,9 +8,8 @@ use Rattle.sheet.proofs.encoding.outline_of.Tie as tie
 
 returns : tie.Need-returns
 returns c =
-    let at-n0 = c .before .before .before .before .before .before .before in
-    let j = at-n0 .before in
-    let i = j .before .before in
+    let j = c .before .before .before .before .before .before .before .before in
+    let i = j .before .before .before in
     rw (kept w32 (i .to-signed .ok) ∙ i .to-signed .ensures, kept w32 (j .to-signed2 .ok) ∙ j .to-signed2 .ensures)
 
 pub outline-of-spec : {M : Type 1} → statement M
@@ -18,7 +17,9 @@ outline-of-spec =
     tie.close
     (tie.spec
     (λ c. search needs)
+    (λ c. search needs)
     (λ c κs. search needs)
+    (λ c. search needs)
     (λ c. search needs)
     (λ c κs. search needs)
     (λ c. search needs)

@@ -1,72 +1,68 @@
 -- `grow` meets its contract. Assumes nothing.
-use mathlib.Core.Path.{_≡_, sym, ap, _∙_}
+use mathlib.Core.Path.{_≡_, sym, ap, subst, _∙_}
 use mathlib.Core.List.{List}
-use Prim.Native.Nat.{ℕ, _+_, _-_, _*_}
+use Prim.Native.Nat.{ℕ}
 use native.Mathlib.Omega.{arith}
 use borrow.Author.Needs.{needs}
-use Rattle.records.specs.Parts.{splice, shifted}
-use Rattle.records.specs.Rows.{key, rank}
+use Rattle.records.specs.Numbers.{AreBytes}
+use Rattle.records.specs.Parts.{splice}
 use Rattle.sheet.specs.declared.Record.{Record}
-use Rattle.sheet.specs.Layout.{record-length, trailer-length, trailer, encoded}
-use Rattle.sheet.specs.Checking.{first, rows}
-use Rattle.sheet.proofs.RecordBytes.{length-encoded, key-encoded}
-use Rattle.sheet.proofs.Inserts.{grown-is}
+use Rattle.sheet.specs.Layout.{record-length, layout-of, Fits}
+use Rattle.sheet.specs.Order.{All, put-in-order}
+use Rattle.sheet.specs.Sheets.{plots-from, first, sheet-of, records-bytes}
+use Rattle.sheet.proofs.Plots.{plots-fit}
+use Rattle.sheet.proofs.Checks.{Good, inspected-good}
+use Rattle.sheet.proofs.Overwritten.{over-records}
+use Rattle.sheet.proofs.Inserts.{grown-length}
 use Rattle.sheet.proofs.inserting.grow.Statement.{statement}
 use Rattle.sheet.proofs.inserting.grow.Tie as tie
 
--- the start, from the rank
-abbrev start-of : tie.After-rank-of → tie.Start
-start-of c = c .before .before .before
+good : (c : tie.Start) → let a = c .args in Good (a .sheet .now) (a .len) (a .z)
+good c = let a = c .args in inspected-good (a .sheet .now) (a .len) (a .z) (c .pre .0 .0)
 
--- the rank that was found is that of the record's bytes
-found : (c : tie.After-rank-of) → let a = start-of c .args in c .rank-of .result ≡ rank (key (encoded (a .r))) (rows (a .sheet .now) (a .len) (a .c))
-found c =
-    let s = start-of c in
+-- the records of the sheet, by their known length
+known : (c : tie.Start) → let a = c .args in plots-from record-length (a .sheet .now) (first (a .len) (a .z .distance)) (a .z .count) ≡ sheet-of (a .sheet .now) (a .len) (a .z) .plots
+known c =
+    let a = c .args in
+    ap (λ (n : ℕ). plots-from n (a .sheet .now) (first (a .len) (a .z .distance)) (a .z .count)) (sym (good c .framing .known))
+
+-- they fit, since a check accepted them
+bytes : (c : tie.After-slice-known) → AreBytes (c .before .args .sheet .now)
+bytes c i = omega (arith, c .slice-known .given i)
+
+old-fits : (c : tie.After-slice-known) → let a = c .before .args in
+    All (Fits (layout-of record-length)) (plots-from record-length (a .sheet .now) (first (a .len) (a .z .distance)) (a .z .count))
+old-fits c =
+    let s = c .before in
     let a = s .args in
-    c .rank-of .ensures .0 ∙ ap (λ (x : ℕ). rank x (rows (a .sheet .now) (a .len) (a .c))) (sym (key-encoded (a .r) (omega (arith, s .good)) (s .pre .1)))
+    subst (All (Fits (layout-of record-length))) (sym (known s)) (plots-fit (a .z .length) (a .sheet .now) (first (a .len) (a .z .distance)) (a .z .count) 0 (bytes c) (good s .ascending))
 
--- what is written where a record goes after k others
-abbrev written : List ℕ → ℕ → ℕ → Record → ℕ → List ℕ
-written s len c r k =
-    let at = first len c + record-length * k in
-    splice (splice (shifted s at (len - trailer-length) record-length) at (encoded r)) (len - trailer-length + record-length) (trailer (c + 1))
-
-steps : (c : tie.After-put-trailer) → let at-record = c .before .before .before .before in
-    let at-shift = at-record .before .before .before .before in
-    let at-rank = at-shift .before .before in
-    let a = at-rank .before .before .before .args in
-    c .put-trailer .last .0 ≡ written (a .sheet .now) (a .len) (a .c) (a .r) (at-rank .rank-of .result)
-steps c =
-    let at-record = c .before .before .before .before in
-    let at-shift = at-record .before .before .before .before in
-    c .put-trailer .ensures ∙ rw (at-record .put-record .ensures, at-shift .shift-up .ensures)
+put-sheet-requires : tie.Need-put-sheet-requires
+put-sheet-requires c κs =
+    let lent = c .before .before .before in
+    let s = lent .before in
+    let a = s .args in
+    let l = grown-length (a .sheet .now) (a .len) (a .z) (a .r) (good s) in
+    ((omega arith, omega (arith, s .pre .1 .0)), (omega (arith, s .pre .1 .1), (old-fits lent, s .pre .0 .1)))
 
 returns : tie.Need-returns
 returns c =
-    let at-trailer = c .before .before in
-    let at-record = at-trailer .before .before .before .before in
-    let at-shift = at-record .before .before .before .before in
-    let at-rank = at-shift .before .before in
-    let s = start-of at-rank in
+    let at-put = c .before .before in
+    let s = at-put .before .before .before .before .before in
     let a = s .args in
-    steps at-trailer
-    ∙ ap (written (a .sheet .now) (a .len) (a .c) (a .r)) (found at-rank)
-    ∙ grown-is (a .sheet .now) (a .len) (a .c) (encoded (a .r)) (s .pre .0 .0) (s .pre .0 .1) (length-encoded (a .r))
+    let h = good s .framing .holds in
+    at-put .put-sheet .ensures
+    ∙ ap (λ (rs : List Record). splice (a .sheet .now) (first (a .len) (a .z .distance)) (records-bytes record-length (put-in-order (a .r) rs))) (known s)
+    ∙ over-records (a .sheet .now) (first (a .len) (a .z .distance)) (put-in-order (a .r) (sheet-of (a .sheet .now) (a .len) (a .z) .plots)) (omega arith)
 
 pub grow-spec : {M : Type 1} → statement M
 grow-spec =
     tie.close
     (tie.spec
+    (λ c. omega (arith, good (c .before) .framing))
     (λ c. search needs)
+    (λ c. omega (arith, good (c .before .before) .framing))
     (λ c. search needs)
-    (λ c. search needs)
-    (λ c κs. search needs)
-    (λ c. search needs)
-    (λ c. search needs)
-    (λ c κs. search needs)
-    (λ c κs. search needs)
-    (λ c. search needs)
-    (λ c. search needs)
-    (λ c κs. search needs)
+    put-sheet-requires
     (λ c. search needs)
     returns)

@@ -1,6 +1,6 @@
 -- `read_trailer` meets its contract. Assumes nothing.
 use borrow.Author.Needs.{needs}
-use Rattle.sheet.specs.Layout.{trailer-at}
+use Rattle.sheet.specs.Trailer.{trailer-at}
 use Rattle.sheet.proofs.trailer.read_trailer.Statement.{statement}
 use Rattle.sheet.proofs.trailer.read_trailer.Tie as tie
 

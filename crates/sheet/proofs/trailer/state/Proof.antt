@@ -1,4 +1,6 @@
 -- `state` meets its contract. Assumes nothing.
+use native.Mathlib.Omega.{arith}
+use native.Mathlib.Nat.{mul-le-mul}
 use borrow.Author.Needs.{needs}
 use Rattle.sheet.specs.Checking.{stated}
 use Rattle.sheet.proofs.trailer.state.Statement.{statement}
@@ -22,9 +24,11 @@ state-spec =
     (tie.spec
     (λ c. search needs)
     (λ c. search needs)
+    (λ c. search needs)
     returns
-    (λ c. search needs)
-    (λ c. search needs)
+    (λ c.
+    let z = c .before .before .before .before .before .before .args .z in
+    record { fits = omega (arith, mul-le-mul {n₁ = z .length} {m₁ = z .count} {n₂ = 4294967295} {m₂ = 4294967295} (omega arith) (omega arith)) })
     (λ c. search needs)
     returns-2
     returns-3)
