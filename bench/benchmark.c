@@ -132,7 +132,7 @@ static double time_check(checker *f) {
     return now() - at;
 }
 
-/* One plot more, before all others: the last that a sheet has room for, and into sheets of a few plots. */
+/* One plot more, before all others: the last that a sheet has room for, and into sheets of a few plots. No insert is refused. */
 static const int32_t new_start[2] = {2, -1};
 static const uint32_t new_sides[8] = {3, 1, 14, 2, 5, 4, 6, 7};
 
@@ -141,20 +141,25 @@ static double time_insert(inserter *f) {
     size_t len = 0;
     memcpy(full, nearly, SHEET);
     double at = now();
-    sink = f(full, SHEET, nearly_len, 1, new_start, 2, new_sides, 8, &len) + (uint32_t)len;
-    return now() - at;
+    uint32_t refused = f(full, SHEET, nearly_len, 1, new_start, 2, new_sides, 8, &len);
+    double ns = now() - at;
+    if (refused || len != SHEET)
+        exit(1);
+    return ns;
 }
 
 static double time_insert_few(inserter *f) {
-    uint32_t sum = 0;
+    uint32_t refused = 0;
     size_t len = 0;
     for (int i = 0; i < INPUTS; i++)
         memcpy(grown[i], few, sizeof grown[i]);
     double at = now();
     for (int i = 0; i < INPUTS; i++)
-        sum += f(grown[i], sizeof grown[i], few_len, 1, new_start, 2, new_sides, 8, &len) + (uint32_t)len;
-    sink = sum;
-    return (now() - at) / INPUTS;
+        refused |= f(grown[i], sizeof grown[i], few_len, 1, new_start, 2, new_sides, 8, &len);
+    double ns = (now() - at) / INPUTS;
+    if (refused || len != few_len + KX_RECORD)
+        exit(1);
+    return ns;
 }
 
 static void say(const char *name, double proved, double plain) { printf("%-12s %12.2f %12.2f %8.2f\n", name, proved, plain, proved / plain); }
