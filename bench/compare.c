@@ -4,7 +4,7 @@
 #include <stdio.h>
 #include <stdlib.h>
 
-uint64_t octagons_by_cells, pairs_by_cells, outlines_by_cells, splits_by_cells, listings;
+uint64_t octagons_by_cells, pairs_by_cells, outlines_by_cells, splits_by_cells, listings, widened;
 static uint64_t compared, accepted, seen[256];
 
 void differ(const char *call, const int32_t *p, const int32_t *f, uint32_t got, uint32_t want) {
@@ -53,7 +53,7 @@ int main(int argc, char **argv) {
     compare_long_tapes();
     printf("inputs %llu, calls compared %llu, accepted %llu, no difference\n", (unsigned long long)(rounds + sheets + tapes), (unsigned long long)compared, (unsigned long long)accepted);
     printf("by sets of cells: octagons %llu, pairs %llu, outlines %llu, splits %llu\n", (unsigned long long)octagons_by_cells, (unsigned long long)pairs_by_cells, (unsigned long long)outlines_by_cells, (unsigned long long)splits_by_cells);
-    printf("listings %llu\n", (unsigned long long)listings);
+    printf("listings %llu, sheets of 24 written anew %llu\n", (unsigned long long)listings, (unsigned long long)widened);
     printf("answers");
     for (int k = 0; k < 256; k++)
         if (seen[k])

@@ -17,9 +17,20 @@ void random_plot(plot *p);
 /* A tape whose points are mostly on the map, about half of them at or next to the edges of cells. */
 void random_tape(double *tape, size_t len);
 
+/* ---- sheets (input_sheets.c) */
+
+/* Any fee row, the least and the greatest among them. */
+uint16_t random_fee_row(void);
+/* Plots that a sheet can hold, by rising number, with a number left out before each. */
+void random_plots(plot *p, uint32_t count);
+/* Alters the count, the record length and the distance in the trailer of a sheet, so that some of them fit each other. */
+void spoil_trailer(uint8_t *s, size_t len);
+/* Alters a few bytes of a sheet, most often of its trailer. */
+void spoil_bytes(uint8_t *s, size_t len);
+
 /* ---- what was compared (compare.c) */
 
-extern uint64_t octagons_by_cells, pairs_by_cells, outlines_by_cells, splits_by_cells, listings;
+extern uint64_t octagons_by_cells, pairs_by_cells, outlines_by_cells, splits_by_cells, listings, widened;
 /* Writes the difference and ends the program. */
 void differ(const char *call, const int32_t *p, const int32_t *f, uint32_t got, uint32_t want);
 void count_answer(uint32_t number);
@@ -35,7 +46,19 @@ int32_t *cleared(int32_t out[8]);
 /* An answer with octagon: the number, and every place of `out`, which was cleared before. */
 void check(const char *call, const int32_t *p, const int32_t *f, uint32_t got, const int32_t out[8], answer want);
 
-/* ---- the parts (compare_octagons.c, compare_pairs.c, compare_lengths.c, compare_sheets.c, compare_tapes.c) */
+/* ---- sheets (compare_sheets.c) */
+
+enum { ROOM = SHEET + 64, PAST = 64 };
+/* The buffer of every call on sheets: its first bytes are lent, at most ROOM of them, and PAST bytes past those are compared too. */
+extern uint8_t sheet[ROOM + PAST];
+/* The check, the fetch and the read of a record, and the listing, on some calls or always. */
+void compare_reads(size_t room, size_t len, int always);
+void compare_start(size_t room, size_t heading, size_t *len);
+/* The insert of a plot; the new length where it is accepted. */
+uint32_t compare_insert(const plot *p, size_t room, size_t *len);
+
+/* ---- the parts (compare_octagons.c, compare_pairs.c, compare_lengths.c, compare_random_sheets.c, compare_full_sheets.c,
+ * compare_tapes.c) */
 
 void compare_one(const int32_t c[8], uint64_t round);
 void compare_two(const int32_t p[8], const int32_t f[8]);
@@ -44,8 +67,9 @@ void compare_outline(void);
 void compare_lengths(const int32_t p[8], const int32_t f[8]);
 /* The constants of koxirmeta.h: what is answered at each limit, and one past it. */
 void compare_constants(void);
+/* A random sheet of either record length, grown and damaged. */
 void compare_sheet(void);
-/* A sheet that is filled to the limit, by inserts in any order. */
+/* The fullest sheets, and those next to them. */
 void compare_full(void);
 void compare_tape(void);
 /* Tapes of up to a million numbers. */

@@ -70,6 +70,7 @@ void random_plot(plot *p) {
     for (int k = 0; k < 8; k++)
         p->sides[k] &= any() % 64 ? 0xffff : 0xffffffff;
     p->number = any() % 16 ? any() % 64 : any();
+    p->fee_row = random_fee_row();
 }
 
 /* The number so many steps above another, where that is not nought. */

@@ -6,8 +6,10 @@
 #include <stddef.h>
 #include <stdint.h>
 
-/* Document 01's limits and lengths. */
-enum { LIMIT = 16000, FOLDS = 65535, SHEET = 65536, RECORD = 24, TRAILER = 16, PIECES = 13 };
+/* The limits and lengths of documents 01 and 02: a record ends with a fee row, a base record has none. */
+enum { LIMIT = 16000, FOLDS = 65535, SHEET = 65536, RECORD = 26, BASE_RECORD = 24, TRAILER = 16, PIECES = 13 };
+/* The most records of a sheet. */
+enum { MOST_PLOTS = (SHEET - TRAILER) / BASE_RECORD };
 
 /* What a call answers: a number, and where it is 0 the normalised bounds. */
 typedef struct {
@@ -15,12 +17,19 @@ typedef struct {
     int64_t c[8];
 } answer;
 
-/* A plot: its number, start and sides. */
+/* A plot: its number, start, sides and fee row. */
 typedef struct {
     uint32_t number;
     int32_t start[2];
     uint32_t sides[8];
+    uint16_t fee_row;
 } plot;
+
+/* Where the records of a sheet stand: the index of the first, how many there are, and the bytes of each. */
+typedef struct {
+    size_t first;
+    uint32_t count, each;
+} frame;
 
 /* How far the cell (x, y) reaches along bound k. */
 int64_t reach(int k, int64_t x, int64_t y);
@@ -82,10 +91,20 @@ void rebuilt(const int32_t start[2], const uint32_t k[PIECES], cells *out);
 
 /* ---- by bytes, and as text */
 
-uint32_t sheet_count(const uint8_t *s, size_t room, size_t len, uint32_t *count);
-plot record_in(const uint8_t *s, size_t len, uint32_t count, uint32_t k);
-/* What reading record k of `count` without a check refuses, or 0. */
-uint32_t read_refusal(size_t room, size_t len, uint32_t count, uint32_t k);
+/* A number of so many bytes, the least first. */
+uint32_t number_at(const uint8_t *s, int width);
+void put_number(uint8_t *s, int width, uint32_t v);
+/* What a sheet's length and trailer say: 8, 9, 10, or 0 and the frame. */
+uint32_t sheet_frame(const uint8_t *s, size_t room, size_t len, frame *f);
+/* Record k of a frame, and whether two plots have the same numbers. */
+plot record_in(const uint8_t *s, const frame *f, uint32_t k);
+int same_plot(const plot *p, const plot *q);
+/* What the check, the fetch and the read answer; the frame or the record where that is 0. */
+uint32_t sheet_checked(const uint8_t *s, size_t room, size_t len, frame *f);
+uint32_t sheet_fetched(const uint8_t *s, size_t room, size_t len, uint32_t k, plot *p);
+uint32_t sheet_read(const uint8_t *s, size_t room, size_t len, uint32_t k, plot *p);
+/* Writes a sheet of these plots after `heading` bytes, with `each` bytes for each, and answers its length. */
+size_t put_sheet(uint8_t *s, size_t heading, uint32_t each, const plot *p, uint32_t count);
 uint32_t sheet_after_start(uint8_t *s, size_t room, size_t heading, size_t *len);
 uint32_t sheet_after_insert(uint8_t *s, size_t room, size_t len, const plot *p, size_t *grown);
 /* The listing of a sheet, and its length. */

@@ -21,13 +21,13 @@ uint32_t plain_sheet_check(const uint8_t *sheet, size_t room, size_t len, uint32
     if (len < TRAILER || len > SHEET_LIMIT || len > room)
         return BAD_LENGTH;
     const uint8_t *t = sheet + len - TRAILER;
-    if (u16_at(t + 8) != RECORD || u16_at(t + 10) != 0 || memcmp(t + 12, "GRND", 4) != 0)
+    uint64_t each = u16_at(t + 8), distance = u32_at(t), records = u32_at(t + 4);
+    if ((each != RECORD && each != BASE_RECORD) || u16_at(t + 10) != 0 || memcmp(t + 12, "GRND", 4) != 0)
         return BAD_TRAILER;
-    uint64_t distance = u32_at(t), records = u32_at(t + 4);
-    if (distance != RECORD * records || len - TRAILER < distance)
+    if (distance != each * records || len - TRAILER < distance)
         return BAD_DISTANCE;
     uint32_t before = 0;
-    for (const uint8_t *r = t - distance; r != t; r += RECORD) {
+    for (const uint8_t *r = t - distance; r != t; r += each) {
         uint32_t number = u32_at(r), n[8];
         if (number <= before)
             return BAD_NUMBER;
@@ -42,15 +42,15 @@ uint32_t plain_sheet_check(const uint8_t *sheet, size_t room, size_t len, uint32
     return 0;
 }
 
-/* The row of the plot in a record: its length, with the plot's cells to *cells. */
-static size_t put_row(char *text, const uint8_t *r, uint32_t *cells) {
+/* The row of the plot in a record of so many bytes: its length, with the plot's cells to *cells. */
+static size_t put_row(char *text, const uint8_t *r, size_t each, uint32_t *cells) {
     int32_t i = (int16_t)u16_at(r + 4), j = (int16_t)u16_at(r + 6), c[8];
-    uint32_t n[8];
+    uint32_t n[8], fee_row = each == RECORD ? u16_at(r + BASE_RECORD) : 0;
     for (int k = 0; k < 8; k++)
         n[k] = u16_at(r + 8 + 2 * k);
     draw(i, j, n, c);
     plain_cells(c, cells);
-    return (size_t)sprintf(text, "%u %d %d %u %u %u %u %u %u %u %u %u\n", u32_at(r), i, j, n[0], n[1], n[2], n[3], n[4], n[5], n[6], n[7], *cells);
+    return (size_t)sprintf(text, "%u %d %d %u %u %u %u %u %u %u %u %u %u\n", u32_at(r), i, j, n[0], n[1], n[2], n[3], n[4], n[5], n[6], n[7], *cells, fee_row);
 }
 
 uint32_t plain_list(const uint8_t *sheet, size_t room, size_t len, uint8_t *text, size_t *written) {
@@ -61,9 +61,10 @@ uint32_t plain_list(const uint8_t *sheet, size_t room, size_t len, uint8_t *text
         *written = (size_t)sprintf(to, "refused %u\n", refused);
         return 0;
     }
-    size_t at = (size_t)sprintf(to, "plot i j n0 n1 n2 n3 n4 n5 n6 n7 cells\n");
-    for (const uint8_t *t = sheet + len - TRAILER, *r = t - RECORD * (size_t)count; r != t; r += RECORD) {
-        at += put_row(to + at, r, &cells);
+    size_t at = (size_t)sprintf(to, "plot i j n0 n1 n2 n3 n4 n5 n6 n7 cells fee\n");
+    size_t each = record_length(sheet, len);
+    for (const uint8_t *t = sheet + len - TRAILER, *r = t - each * count; r != t; r += each) {
+        at += put_row(to + at, r, each, &cells);
         sum += cells;
     }
     *written = at + (size_t)sprintf(to + at, "plots %u cells %llu\n", count, (unsigned long long)sum);

@@ -1,79 +1,111 @@
-/* Sheets byte by byte, in the words of document 01: a sheet is read into plots, and written anew from them. */
+/* Sheets byte by byte, in the words of documents 01 and 02: a sheet is read into plots, and written anew from them. */
 #include "oracle.h"
 #include <string.h>
 
-static uint32_t number_at(const uint8_t *s, int width) {
+uint32_t number_at(const uint8_t *s, int width) {
     uint32_t v = 0;
     for (int i = 0; i < width; i++)
         v |= (uint32_t)s[i] << (8 * i);
     return v;
 }
 
-static void put_number(uint8_t *s, int width, uint32_t v) {
+void put_number(uint8_t *s, int width, uint32_t v) {
     for (int i = 0; i < width; i++)
         s[i] = (uint8_t)(v >> (8 * i));
 }
 
-static plot decoded(const uint8_t *s) {
+/* ---- reading */
+
+plot record_in(const uint8_t *s, const frame *f, uint32_t k) {
+    const uint8_t *r = s + f->first + (size_t)f->each * k;
     plot p;
-    p.number = number_at(s, 4);
-    p.start[0] = (int16_t)number_at(s + 4, 2);
-    p.start[1] = (int16_t)number_at(s + 6, 2);
-    for (int k = 0; k < 8; k++)
-        p.sides[k] = number_at(s + 8 + 2 * k, 2);
+    p.number = number_at(r, 4);
+    p.start[0] = (int16_t)number_at(r + 4, 2);
+    p.start[1] = (int16_t)number_at(r + 6, 2);
+    for (int n = 0; n < 8; n++)
+        p.sides[n] = number_at(r + 8 + 2 * n, 2);
+    p.fee_row = f->each == RECORD ? (uint16_t)number_at(r + 24, 2) : 0;
     return p;
 }
 
-static void encode_record(uint8_t *s, plot p) {
-    put_number(s, 4, p.number);
-    put_number(s + 4, 2, (uint32_t)p.start[0]);
-    put_number(s + 6, 2, (uint32_t)p.start[1]);
-    for (int k = 0; k < 8; k++)
-        put_number(s + 8 + 2 * k, 2, p.sides[k]);
+int same_plot(const plot *p, const plot *q) {
+    return p->number == q->number && !memcmp(p->start, q->start, sizeof p->start) && !memcmp(p->sides, q->sides, sizeof p->sides) && p->fee_row == q->fee_row;
 }
 
-plot record_in(const uint8_t *s, size_t len, uint32_t count, uint32_t k) { return decoded(s + len - TRAILER - RECORD * (size_t)(count - k)); }
-
-static int is_bad_length(size_t room, size_t len) { return len < TRAILER || len > SHEET || len > room; }
-
-uint32_t read_refusal(size_t room, size_t len, uint32_t count, uint32_t k) {
-    if (is_bad_length(room, len))
-        return 8;
-    if (RECORD * (uint64_t)count > len - TRAILER)
-        return 10;
-    return k < count ? 0 : 13;
-}
-
-uint32_t sheet_count(const uint8_t *s, size_t room, size_t len, uint32_t *count) {
-    uint32_t last = 0;
-    if (is_bad_length(room, len))
+uint32_t sheet_frame(const uint8_t *s, size_t room, size_t len, frame *f) {
+    if (len < TRAILER || len > SHEET || len > room)
         return 8;
     const uint8_t *t = s + len - TRAILER;
-    if (memcmp(t + 12, "GRND", 4) || number_at(t + 8, 2) != RECORD || t[10] || t[11])
+    uint32_t each = number_at(t + 8, 2);
+    if (memcmp(t + 12, "GRND", 4) || (each != BASE_RECORD && each != RECORD) || t[10] || t[11])
         return 9;
-    uint64_t distance = number_at(t, 4), n = number_at(t + 4, 4);
-    if (distance != RECORD * n || distance > len - TRAILER)
+    uint64_t distance = number_at(t, 4), count = number_at(t + 4, 4);
+    if (distance != each * count || distance > len - TRAILER)
         return 10;
-    for (uint32_t k = 0; k < n; k++) {
-        plot p = record_in(s, len, (uint32_t)n, k);
-        uint32_t refused = walk_refusal(p.start, p.sides);
+    *f = (frame){len - TRAILER - (size_t)distance, (uint32_t)count, each};
+    return 0;
+}
+
+uint32_t sheet_checked(const uint8_t *s, size_t room, size_t len, frame *f) {
+    frame found;
+    uint32_t last = 0, refused = sheet_frame(s, room, len, &found);
+    if (refused)
+        return refused;
+    for (uint32_t k = 0; k < found.count; k++) {
+        plot p = record_in(s, &found, k);
         if (p.number == 0 || (k > 0 && p.number <= last))
             return 11;
+        refused = walk_refusal(p.start, p.sides);
         if (refused)
             return refused;
         last = p.number;
     }
-    *count = (uint32_t)n;
+    *f = found;
     return 0;
 }
 
-/* The trailer of `count` records at t. */
-static void put_trailer(uint8_t *t, uint32_t count) {
-    put_number(t, 4, RECORD * count);
+/* Record k of a frame, where it has one. */
+static uint32_t taken(const uint8_t *s, const frame *f, uint32_t k, plot *p) {
+    if (k >= f->count)
+        return 13;
+    *p = record_in(s, f, k);
+    return 0;
+}
+
+uint32_t sheet_fetched(const uint8_t *s, size_t room, size_t len, uint32_t k, plot *p) {
+    frame f;
+    uint32_t refused = sheet_checked(s, room, len, &f);
+    return refused ? refused : taken(s, &f, k, p);
+}
+
+uint32_t sheet_read(const uint8_t *s, size_t room, size_t len, uint32_t k, plot *p) {
+    frame f;
+    uint32_t refused = sheet_frame(s, room, len, &f);
+    return refused ? refused : taken(s, &f, k, p);
+}
+
+/* ---- writing */
+
+static void put_record(uint8_t *s, uint32_t each, const plot *p) {
+    put_number(s, 4, p->number);
+    put_number(s + 4, 2, (uint32_t)p->start[0]);
+    put_number(s + 6, 2, (uint32_t)p->start[1]);
+    for (int n = 0; n < 8; n++)
+        put_number(s + 8 + 2 * n, 2, p->sides[n]);
+    if (each == RECORD)
+        put_number(s + 24, 2, p->fee_row);
+}
+
+size_t put_sheet(uint8_t *s, size_t heading, uint32_t each, const plot *p, uint32_t count) {
+    uint8_t *t = s + heading + (size_t)each * count;
+    for (uint32_t k = 0; k < count; k++)
+        put_record(s + heading + (size_t)each * k, each, &p[k]);
+    put_number(t, 4, each * count);
     put_number(t + 4, 4, count);
-    put_number(t + 8, 2, RECORD);
+    put_number(t + 8, 2, each);
     put_number(t + 10, 2, 0);
     memcpy(t + 12, "GRND", 4);
+    return heading + (size_t)each * count + TRAILER;
 }
 
 uint32_t sheet_after_start(uint8_t *s, size_t room, size_t heading, size_t *len) {
@@ -81,35 +113,29 @@ uint32_t sheet_after_start(uint8_t *s, size_t room, size_t heading, size_t *len)
         return 8;
     if (heading + TRAILER > room)
         return 12;
-    put_trailer(s + heading, 0);
-    *len = heading + TRAILER;
+    *len = put_sheet(s, heading, RECORD, NULL, 0);
     return 0;
 }
 
 uint32_t sheet_after_insert(uint8_t *s, size_t room, size_t len, const plot *p, size_t *grown) {
-    static uint8_t fresh[SHEET + RECORD];
-    uint32_t count = 0, refused = walk_refusal(p->start, p->sides), k;
-    if (refused)
+    static plot plots[MOST_PLOTS + 1];
+    frame f;
+    uint32_t refused = walk_refusal(p->start, p->sides), before = 0;
+    if (refused || (refused = sheet_checked(s, room, len, &f)))
         return refused;
-    refused = sheet_count(s, room, len, &count);
-    if (refused)
-        return refused;
+    for (uint32_t k = 0; k < f.count; k++) {
+        plot old = record_in(s, &f, k);
+        if (old.number == p->number)
+            return 11;
+        before += old.number < p->number;
+        plots[k + (old.number > p->number)] = old;
+    }
+    plots[before] = *p;
     if (p->number == 0)
         return 11;
-    for (k = 0; k < count; k++)
-        if (record_in(s, len, count, k).number == p->number)
-            return 11;
-    if (len + RECORD > room || len + RECORD > SHEET)
+    size_t next = f.first + RECORD * ((size_t)f.count + 1) + TRAILER;
+    if (next > room || next > SHEET)
         return 12;
-    size_t at = len - TRAILER - RECORD * (size_t)count;
-    memcpy(fresh, s, at);
-    for (k = 0; k < count && record_in(s, len, count, k).number < p->number; k++, at += RECORD)
-        encode_record(fresh + at, record_in(s, len, count, k));
-    encode_record(fresh + at, *p);
-    for (at += RECORD; k < count; k++, at += RECORD)
-        encode_record(fresh + at, record_in(s, len, count, k));
-    put_trailer(fresh + at, count + 1);
-    memcpy(s, fresh, at + TRAILER);
-    *grown = at + TRAILER;
+    *grown = put_sheet(s, f.first, RECORD, plots, f.count + 1);
     return 0;
 }

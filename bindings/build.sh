@@ -1,5 +1,5 @@
 #!/bin/sh
-# Builds the proved archive, then example.c and example.rs over it, runs them, and compares what each writes with expected.txt.
+# Builds the proved archive, then the examples in C and Rust over it, runs them, and compares what each writes with expected.txt.
 # Needs rt, gcc and rustc (1.82 or newer) on the PATH.
 set -eu
 here=$(cd "$(dirname "$0")" && pwd)
@@ -15,8 +15,8 @@ matches() {
 
 sh "$here/archive.sh"
 
-say "compiling and running example.c"
-gcc -std=c11 -O2 -Wall -Wextra -Wpedantic -Werror -o "$built/example_c" "$here/example.c" "$built/libkoxirmeta.a"
+say "compiling and running example.c with example_sheets.c"
+gcc -std=c11 -O2 -Wall -Wextra -Wpedantic -Werror -o "$built/example_c" "$here/example.c" "$here/example_sheets.c" "$built/libkoxirmeta.a"
 matches example_c
 
 for edition in 2021 2024; do

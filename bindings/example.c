@@ -1,20 +1,15 @@
-/* The library from C: cases of document 01, a plot and a frame whose numbers all differ, and a surveyor's tape, as `build.sh` compares
- * them with expected.txt. */
-#include "koxirmeta.h"
+/* The library from C: cases of document 01, a plot and a frame whose numbers all differ, and a surveyor's tape; example_sheets.c has
+ * sheets and the limits. `build.sh` compares what they write with expected.txt. */
+#include "example.h"
 #include <math.h>
 #include <stdio.h>
 #include <string.h>
 
-static const int32_t ORIGIN[8] = {0, 0, 0, 0, 0, 0, 0, 0};
 static const int32_t CROSSED[8] = {5, 0, 5, 1, 5, 0, 5, -1};
 static const uint32_t K2[8] = {0, 1, 0, 0, 0, 1, 0, 0};
 static const uint32_t K4[8] = {0, 0, 0, 1, 0, 0, 0, 1};
-static const uint32_t K13[8] = {0, 1, 0, 1, 0, 1, 0, 1};
 static const uint32_t BLOCK[8] = {2, 0, 1, 0, 2, 0, 1, 0};
 static const uint32_t SQUARE[8] = {2, 0, 2, 0, 2, 0, 2, 0};
-static const uint32_t FIELD[8] = {3, 0, 1, 0, 3, 0, 1, 0};
-static const int32_t UNEVEN_START[2] = {-4, -5};
-static const uint32_t UNEVEN_SIDES[8] = {3, 1, 14, 2, 5, 4, 6, 7};
 static const int32_t FRAME[8] = {-4, -1, 5, 11, 7, 4, -2, -7};
 
 typedef uint32_t call(const int32_t *, size_t, const int32_t *, size_t, int32_t *, size_t);
@@ -168,86 +163,13 @@ static void tapes(void) {
     survey("a point at the edge of the map", edge, 2);
 }
 
-/* Writes the listing of a sheet as it is. */
-static void listing(const uint8_t *sheet, size_t room, size_t len) {
-    static uint8_t text[KX_TEXT];
-    size_t written = 0;
-    if (kx_list(sheet, room, len, text, &written) == KX_ACCEPTED)
-        fwrite(text, 1, written, stdout);
-}
-
-/* Writes a record, or the number of a refusal. */
-static void show_record(const char *what, uint32_t answer, uint32_t number, const int32_t start[2], const uint32_t n[8]) {
-    printf("%s: %u", what, answer);
-    if (answer == KX_ACCEPTED)
-        printf(" number %u start %d %d sides %u %u %u %u %u %u %u %u", number, start[0], start[1], n[0], n[1], n[2], n[3], n[4], n[5], n[6], n[7]);
-    printf("\n");
-}
-
-static void fetch(const char *what, const uint8_t *sheet, size_t room, size_t len, uint32_t k) {
-    uint32_t number = 0, n[8] = {0};
-    int32_t start[2] = {0, 0};
-    uint32_t answer = kx_sheet_fetch(sheet, room, len, k, &number, start, 2, n, 8);
-    show_record(what, answer, number, start, n);
-}
-
-static void sheets(void) {
-    uint8_t sheet[96] = {'p', 'l', 'o', 't', 's'};
-    size_t len = 0;
-    const int32_t zero[2] = {0, 0}, start[2] = {2, -1};
-    uint32_t number = 0, n[8] = {0}, answer;
-    int32_t at[2] = {0, 0};
-    printf("start: %u", kx_sheet_start(sheet, 96, 5, &len));
-    printf(" length %zu\n", len);
-    printf("insert 11407: %u", kx_sheet_insert(sheet, 96, len, 11407, zero, 2, K13, 8, &len));
-    printf(" length %zu\n", len);
-    printf("insert 70001: %u", kx_sheet_insert(sheet, 96, len, 70001, UNEVEN_START, 2, UNEVEN_SIDES, 8, &len));
-    printf(" length %zu\n", len);
-    printf("insert 7: %u", kx_sheet_insert(sheet, 96, len, 7, start, 2, FIELD, 8, &len));
-    printf(" length %zu\n", len);
-    printf("insert 7 again: %u\n", kx_sheet_insert(sheet, 96, len, 7, start, 2, FIELD, 8, &len));
-    printf("insert 8, no room: %u\n", kx_sheet_insert(sheet, 96, len, 8, start, 2, FIELD, 8, &len));
-    printf("check: %u", kx_sheet_check(sheet, 96, len, &number));
-    printf(" count %u\n", number);
-    listing(sheet, 96, len);
-    fetch("record 1", sheet, 96, len, 1);
-    fetch("record 2", sheet, 96, len, 2);
-    fetch("record 3", sheet, 96, len, 3);
-    answer = kx_sheet_read(sheet, 96, len, 3, 0, &number, at, 2, n, 8);
-    show_record("record 0 of 3", answer, number, at, n);
-    sheet[len - 1] = 'E';
-    listing(sheet, 96, len);
-}
-
-/* The constants: what is answered at a limit, and one past it. */
-static void limits(void) {
-    static uint8_t sheet[KX_SHEET_LIMIT];
-    static const uint32_t none[8] = {0};
-    const int32_t edge[2] = {KX_MAP_LIMIT, 0}, past[2] = {KX_MAP_LIMIT + 1, 0}, zero[2] = {0, 0};
-    int32_t out[8] = {0};
-    uint32_t count = 0;
-    size_t len = 0, grown = 0;
-    printf("map limit %d: %u", KX_MAP_LIMIT, kx_to_octagon(edge, 2, none, 8, out, 8));
-    printf(", one more: %u\n", kx_to_octagon(past, 2, none, 8, out, 8));
-    printf("fold limit %d: %u", KX_FOLD_LIMIT, kx_dilate_n(ORIGIN, 8, ORIGIN, 8, KX_FOLD_LIMIT, out, 8));
-    printf(", one more: %u\n", kx_dilate_n(ORIGIN, 8, ORIGIN, 8, KX_FOLD_LIMIT + 1, out, 8));
-    printf("sheet limit %d: %u", KX_SHEET_LIMIT, kx_sheet_start(sheet, sizeof sheet, KX_SHEET_LIMIT - KX_TRAILER, &len));
-    printf(", one more: %u", kx_sheet_start(sheet, sizeof sheet, KX_SHEET_LIMIT - KX_TRAILER + 1, &len));
-    printf(", length %zu\n", len);
-    kx_sheet_start(sheet, sizeof sheet, 0, &len);
-    printf("trailer %zu: %u", len, kx_sheet_check(sheet, sizeof sheet, KX_TRAILER, &count));
-    printf(", one less: %u\n", kx_sheet_check(sheet, sizeof sheet, KX_TRAILER - 1, &count));
-    printf("record %d: %u", KX_RECORD, kx_sheet_insert(sheet, KX_TRAILER + KX_RECORD, len, 1, zero, 2, none, 8, &grown));
-    printf(", one less: %u", kx_sheet_insert(sheet, KX_TRAILER + KX_RECORD + KX_RECORD - 1, grown, 2, zero, 2, none, 8, &grown));
-    printf(", length %zu\n", grown);
-}
-
 int main(void) {
     octagons();
     uneven();
     splits();
     tapes();
     sheets();
+    base_sheets();
     limits();
     return 0;
 }

@@ -1,4 +1,6 @@
-//! The library from Rust: the cases of example.c, as `build.sh` compares them with expected.txt.
+//! The library from Rust: the cases of example.c and, in example_sheets.rs, those of example_sheets.c. `build.sh` compares what they
+//! write with expected.txt.
+mod example_sheets;
 mod koxirmeta;
 
 use koxirmeta as kx;
@@ -11,8 +13,7 @@ const K4: Sides = [0, 0, 0, 1, 0, 0, 0, 1];
 const K13: Sides = [0, 1, 0, 1, 0, 1, 0, 1];
 const BLOCK: Sides = [2, 0, 1, 0, 2, 0, 1, 0];
 const SQUARE: Sides = [2, 0, 2, 0, 2, 0, 2, 0];
-const FIELD: Sides = [3, 0, 1, 0, 3, 0, 1, 0];
-const UNEVEN: Plot = Plot { number: 70001, start: [-4, -5], sides: [3, 1, 14, 2, 5, 4, 6, 7] };
+const UNEVEN: Plot = Plot { number: 70001, start: [-4, -5], sides: [3, 1, 14, 2, 5, 4, 6, 7], fee_row: 40961 };
 const FRAME: Bounds = [-4, -1, 5, 11, 7, 4, -2, -7];
 
 fn octagon_at(i: i32, j: i32, sides: &Sides) -> Bounds {
@@ -131,62 +132,6 @@ fn tapes() {
     survey("a point at the edge of the map", &[4000.0625, -4000.125]);
 }
 
-fn listing(sheet: &[u8], len: usize) {
-    let mut text = vec![0; kx::TEXT];
-    let listed = kx::list(sheet, len, text.as_mut_slice().try_into().unwrap()).unwrap();
-    print!("{}", String::from_utf8_lossy(listed));
-}
-
-fn show_record(what: &str, answer: Result<Plot, Refusal>) {
-    match answer {
-        Err(why) => println!("{what}: {}", why.number()),
-        Ok(p) => println!("{what}: 0 number {} start {} sides {}", p.number, words(&p.start), words(&p.sides)),
-    }
-}
-
-fn sheets() {
-    let mut sheet = [0u8; 96];
-    sheet[..5].copy_from_slice(b"plots");
-    let (k13, field) = (Plot { number: 11407, start: [0, 0], sides: K13 }, Plot { number: 7, start: [2, -1], sides: FIELD });
-    let len = kx::sheet_start(&mut sheet, 5).unwrap();
-    println!("start: 0 length {len}");
-    let len = kx::sheet_insert(&mut sheet, len, &k13).unwrap();
-    println!("insert 11407: 0 length {len}");
-    let len = kx::sheet_insert(&mut sheet, len, &UNEVEN).unwrap();
-    println!("insert 70001: 0 length {len}");
-    let len = kx::sheet_insert(&mut sheet, len, &field).unwrap();
-    println!("insert 7: 0 length {len}");
-    println!("insert 7 again: {}", number(&kx::sheet_insert(&mut sheet, len, &field)));
-    println!("insert 8, no room: {}", number(&kx::sheet_insert(&mut sheet, len, &Plot { number: 8, ..field })));
-    println!("check: 0 count {}", kx::sheet_check(&sheet, len).unwrap());
-    listing(&sheet, len);
-    show_record("record 1", kx::sheet_fetch(&sheet, len, 1));
-    show_record("record 2", kx::sheet_fetch(&sheet, len, 2));
-    show_record("record 3", kx::sheet_fetch(&sheet, len, 3));
-    show_record("record 0 of 3", kx::sheet_read(&sheet, len, 3, 0));
-    sheet[len - 1] = b'E';
-    listing(&sheet, len);
-}
-
-/// The constants: what is answered at a limit, and one past it.
-fn limits() {
-    let mut sheet = vec![0; kx::SHEET_LIMIT];
-    let (map, folds, full) = (kx::MAP_LIMIT, kx::FOLD_LIMIT, kx::SHEET_LIMIT - kx::TRAILER);
-    let cell = |x| number(&kx::to_octagon(&[x, 0], &[0; 8]));
-    println!("map limit {map}: {}, one more: {}", cell(map), cell(map + 1));
-    let fold = |n| number(&kx::dilate_n(&ORIGIN, &ORIGIN, n));
-    println!("fold limit {folds}: {}, one more: {}", fold(folds), fold(folds + 1));
-    let len = kx::sheet_start(&mut sheet, full).unwrap();
-    println!("sheet limit {}: 0, one more: {}, length {len}", kx::SHEET_LIMIT, number(&kx::sheet_start(&mut sheet, full + 1)));
-    let len = kx::sheet_start(&mut sheet, 0).unwrap();
-    let check = |n| number(&kx::sheet_check(&sheet, n));
-    println!("trailer {len}: {}, one less: {}", check(kx::TRAILER), check(kx::TRAILER - 1));
-    let (two, plot) = (kx::TRAILER + kx::RECORD, Plot { number: 1, ..Plot::default() });
-    let grown = kx::sheet_insert(&mut sheet[..two], len, &plot).unwrap();
-    let next = kx::sheet_insert(&mut sheet[..two + kx::RECORD - 1], grown, &Plot { number: 2, ..plot });
-    println!("record {}: 0, one less: {}, length {grown}", kx::RECORD, number(&next));
-}
-
 /// Each number of a refusal has a name and words, and no other number has; and a tape's are given by their names.
 fn refusals() {
     assert_eq!(kx::enclose(&[]), Err(Refusal::NoPoint));
@@ -207,7 +152,8 @@ fn main() {
     uneven();
     splits();
     tapes();
-    sheets();
-    limits();
+    example_sheets::sheets();
+    example_sheets::base_sheets();
+    example_sheets::limits();
     refusals();
 }

@@ -33,20 +33,23 @@
 extern "C" {
 #endif
 
-/* The limits of document 01. */
+/* The limits and lengths of documents 01 and 02. */
 enum {
     KX_MAP_LIMIT = 16000,    /* of a cell's coordinates, up and down */
     KX_FOLD_LIMIT = 65535,   /* of n in an n-fold call */
     KX_SHEET_LIMIT = 65536,  /* of a sheet's length, in bytes */
-    KX_RECORD = 24,          /* the length of a record, in bytes */
+    KX_BASE_RECORD = 24,     /* the length of document 01's record, in bytes: it has no fee row */
+    KX_FEE_RECORD = 26,      /* the length of a record that ends with a fee row, in bytes */
+    KX_RECORD = KX_FEE_RECORD, /* the length of a record that is written */
     KX_TRAILER = 16          /* the length of a trailer, in bytes */
 };
 
 /* The lengths of the slices. */
 enum { KX_BOUNDS = 8, KX_START = 2, KX_SIDES = 8, KX_COUNTS = 13, KX_PLACE = 2 };
 
-/* The length of a listing's text: a line for each record that a sheet can hold, and two, each of at most KX_LINE bytes. */
-enum { KX_LINE = 252, KX_TEXT = KX_LINE * ((KX_SHEET_LIMIT - KX_TRAILER) / KX_RECORD + 2) };
+/* The length of a listing's text: a line for each record that a sheet can hold, of the shorter ones, and two, each of at most
+ * KX_LINE bytes. */
+enum { KX_LINE = 273, KX_TEXT = KX_LINE * ((KX_SHEET_LIMIT - KX_TRAILER) / KX_BASE_RECORD + 2) };
 
 /* What a call returns. */
 enum {
@@ -60,7 +63,7 @@ enum {
     KX_NO_VERTEX = 7,        /* the corner number is not below KX_SIDES */
     KX_BAD_LENGTH = 8,       /* the sheet's length is below KX_TRAILER, above KX_SHEET_LIMIT or above the buffer's */
     KX_BAD_TRAILER = 9,      /* letters, record length or zero bytes are wrong */
-    KX_BAD_DISTANCE = 10,    /* the distance is not KX_RECORD times the count, or exceeds the length less KX_TRAILER */
+    KX_BAD_DISTANCE = 10,    /* the distance is not the record length times the count, or exceeds the length less KX_TRAILER */
     KX_BAD_NUMBER = 11,      /* a plot number is 0, out of order or present */
     KX_NO_ROOM = 12,         /* the buffer or the sheet has no room */
     KX_NO_RECORD = 13,       /* there is no such record */
@@ -111,30 +114,35 @@ uint32_t kx_decompose(const int32_t *bounds, size_t bounds_len, int32_t *start, 
  * when either coordinate is not finite, and 2 when its cell lies off the map. */
 uint32_t kx_enclose(const double *tape, size_t tape_len, int32_t *out, size_t out_len);
 
-/* A sheet stands in the first len of the sheet_len bytes of a buffer: a heading, records of KX_RECORD bytes each and a trailer
- * of KX_TRAILER. */
+/* A sheet stands in the first len of the sheet_len bytes of a buffer: a heading, records and a trailer of KX_TRAILER bytes. Its
+ * records all have the length that the trailer names, KX_BASE_RECORD or KX_FEE_RECORD, and sheets of both are read. A fee row is any
+ * unsigned 16-bit number, and that of a record of KX_BASE_RECORD bytes is 0. All records that are written have KX_RECORD bytes. */
 
 /* How many records a sheet has, to *count. Refusals: 8, 9, 10; then for each record 11, 3, 2. */
 uint32_t kx_sheet_check(const uint8_t *sheet, size_t sheet_len, size_t len, uint32_t *count);
 
-/* Record k, counted from 0: its plot number to *number, its outline to start[KX_START] and sides[KX_SIDES]. The check's
- * refusals, then 13 when k is not below the count. */
-uint32_t kx_sheet_fetch(const uint8_t *sheet, size_t sheet_len, size_t len, uint32_t k, uint32_t *number, int32_t *start, size_t start_len, uint32_t *sides, size_t sides_len);
+/* Record k, counted from 0: its plot number to *number, its outline to start[KX_START] and sides[KX_SIDES], its fee row to
+ * *fee_row. The check's refusals, then 13 when k is not below the count. */
+uint32_t kx_sheet_fetch(const uint8_t *sheet, size_t sheet_len, size_t len, uint32_t k, uint32_t *number, int32_t *start, size_t start_len, uint32_t *sides, size_t sides_len, uint16_t *fee_row);
 
-/* The same in constant time, of a sheet in which kx_sheet_check has counted `count` records. Refusals: 8 for the length; 10 when
- * `count` records and a trailer are longer than it; then 13 when k is not below `count`. */
-uint32_t kx_sheet_read(const uint8_t *sheet, size_t sheet_len, size_t len, uint32_t count, uint32_t k, uint32_t *number, int32_t *start, size_t start_len, uint32_t *sides, size_t sides_len);
+/* The same in constant time, for a sheet that kx_sheet_check accepts: it checks no record. Refusals: the check's 8, 9 and 10, then
+ * 13 when k is not below the trailer's count. Of a sheet whose records are wrong, it answers what stands in record k. */
+uint32_t kx_sheet_read(const uint8_t *sheet, size_t sheet_len, size_t len, uint32_t k, uint32_t *number, int32_t *start, size_t start_len, uint32_t *sides, size_t sides_len, uint16_t *fee_row);
 
 /* Writes the trailer of a sheet of no records after `heading` bytes, and its length to *len. Refusals: 8 when that length is above
  * KX_SHEET_LIMIT, then 12 when it is above the buffer's. */
 uint32_t kx_sheet_start(uint8_t *sheet, size_t sheet_len, size_t heading, size_t *len);
 
-/* Inserts a plot by its number, and writes the new length to *grown. Refusals: first the outline's 3 and 2, then the check's, 11
- * and 12. Heading and bytes past the new length keep their values. */
-uint32_t kx_sheet_insert(uint8_t *sheet, size_t sheet_len, size_t len, uint32_t number, const int32_t *start, size_t start_len, const uint32_t *sides, size_t sides_len, size_t *grown);
+/* Inserts a plot by its number, and writes the new length to *grown. A sheet of KX_BASE_RECORD is written anew at KX_RECORD, in the
+ * same buffer: its plots keep their numbers and outlines, and have the fee row 0. The new length is that of the heading, of a record
+ * of KX_RECORD for each plot, the new one among them, and of the trailer. Refusals: first the outline's 3 and 2, then the check's,
+ * 11, and 12 when the new length is above the buffer's or above KX_SHEET_LIMIT. Heading and bytes past the new length keep their
+ * values. */
+uint32_t kx_sheet_insert(uint8_t *sheet, size_t sheet_len, size_t len, uint32_t number, const int32_t *start, size_t start_len, const uint32_t *sides, size_t sides_len, uint16_t fee_row, size_t *grown);
 
-/* The listing of a sheet, to the start of text[KX_TEXT], and its length to *written; the bytes past it keep their values. It is
- * always accepted: the listing of a sheet that kx_sheet_check refuses is the one line `refused`, a space and the number. */
+/* The listing of a sheet, to the start of text[KX_TEXT], and its length to *written; the bytes past it keep their values. Its last
+ * column has the fee rows. It is always accepted: the listing of a sheet that kx_sheet_check refuses is the one line `refused`, a
+ * space and the number. */
 uint32_t kx_list(const uint8_t *sheet, size_t sheet_len, size_t len, uint8_t text[KX_TEXT], size_t *written);
 
 #ifdef __cplusplus

@@ -13,14 +13,19 @@ pub const MAP_LIMIT: i32 = 16000;
 pub const FOLD_LIMIT: u32 = 65535;
 /// The length of the longest sheet, in bytes.
 pub const SHEET_LIMIT: usize = 65536;
-/// The length of a record of a sheet, in bytes.
-pub const RECORD: usize = 24;
+/// The length of document 01's record, in bytes: it has no fee row.
+pub const BASE_RECORD: usize = 24;
+/// The length of a record that ends with a fee row, in bytes.
+pub const FEE_RECORD: usize = 26;
+/// The length of a record that is written.
+pub const RECORD: usize = FEE_RECORD;
 /// The length of the trailer of a sheet, in bytes.
 pub const TRAILER: usize = 16;
 /// The length of the longest line of a listing, in bytes.
-pub const LINE: usize = 252;
-/// The length of the text that a listing is written to, in bytes: a line for each record that a sheet can hold, and two.
-pub const TEXT: usize = LINE * ((SHEET_LIMIT - TRAILER) / RECORD + 2);
+pub const LINE: usize = 273;
+/// The length of the text that a listing is written to, in bytes: a line for each record that a sheet can hold, of the shorter ones,
+/// and two.
+pub const TEXT: usize = LINE * ((SHEET_LIMIT - TRAILER) / BASE_RECORD + 2);
 
 /// An octagon: the cells (x, y) with -y <= c0, x-y <= c1, x <= c2, x+y <= c3, y <= c4, -x+y <= c5, -x <= c6 and -x-y <= c7.
 pub type Bounds = [i32; 8];
@@ -33,7 +38,7 @@ pub type Counts = [u32; 13];
 /// A place on the ground in metres, east and north.
 pub type Place = [f64; 2];
 
-/// A record of a sheet: a plot number and an outline.
+/// A record of a sheet: a plot number, an outline and a fee row.
 #[derive(Clone, Copy, Debug, Default, PartialEq, Eq)]
 pub struct Plot {
     /// The plot number.
@@ -42,6 +47,8 @@ pub struct Plot {
     pub start: Start,
     /// The side lengths of the outline.
     pub sides: Sides,
+    /// The row in the tariff of fees: any number. It is 0 where it was read from a record of [`BASE_RECORD`] bytes.
+    pub fee_row: u16,
 }
 
 macro_rules! refusals {
@@ -102,7 +109,7 @@ refusals! {
     BadLength = 8,
     /// Letters, record length or zero bytes of the trailer are wrong.
     BadTrailer = 9,
-    /// The distance is not [`RECORD`] times the count, or exceeds the length less [`TRAILER`].
+    /// The distance is not the record length times the count, or exceeds the length less [`TRAILER`].
     BadDistance = 10,
     /// A plot number is 0, out of order or present.
     BadNumber = 11,
@@ -133,7 +140,7 @@ impl fmt::Display for Refusal {
             Refusal::NoVertex => write!(f, "the corner number is above 7"),
             Refusal::BadLength => write!(f, "the length of the sheet is below {TRAILER}, above {SHEET_LIMIT} or above the buffer's"),
             Refusal::BadTrailer => write!(f, "letters, record length or zero bytes of the trailer are wrong"),
-            Refusal::BadDistance => write!(f, "the distance is not {RECORD} times the count, or exceeds the length less {TRAILER}"),
+            Refusal::BadDistance => write!(f, "the distance is not the record length times the count, or exceeds the length less {TRAILER}"),
             Refusal::BadNumber => write!(f, "a plot number is 0, out of order or present"),
             Refusal::NoRoom => write!(f, "the buffer or the sheet has no room"),
             Refusal::NoRecord => write!(f, "there is no such record"),
@@ -164,10 +171,10 @@ mod calls {
         pub fn kx_decompose(bounds: *const i32, bounds_len: usize, start: *mut i32, start_len: usize, counts: *mut u32, counts_len: usize) -> u32;
         pub fn kx_enclose(tape: *const f64, tape_len: usize, out: *mut i32, out_len: usize) -> u32;
         pub fn kx_sheet_check(sheet: *const u8, sheet_len: usize, len: usize, count: *mut u32) -> u32;
-        pub fn kx_sheet_fetch(sheet: *const u8, sheet_len: usize, len: usize, k: u32, number: *mut u32, start: *mut i32, start_len: usize, sides: *mut u32, sides_len: usize) -> u32;
-        pub fn kx_sheet_read(sheet: *const u8, sheet_len: usize, len: usize, count: u32, k: u32, number: *mut u32, start: *mut i32, start_len: usize, sides: *mut u32, sides_len: usize) -> u32;
+        pub fn kx_sheet_fetch(sheet: *const u8, sheet_len: usize, len: usize, k: u32, number: *mut u32, start: *mut i32, start_len: usize, sides: *mut u32, sides_len: usize, fee_row: *mut u16) -> u32;
+        pub fn kx_sheet_read(sheet: *const u8, sheet_len: usize, len: usize, k: u32, number: *mut u32, start: *mut i32, start_len: usize, sides: *mut u32, sides_len: usize, fee_row: *mut u16) -> u32;
         pub fn kx_sheet_start(sheet: *mut u8, sheet_len: usize, heading: usize, len: *mut usize) -> u32;
-        pub fn kx_sheet_insert(sheet: *mut u8, sheet_len: usize, len: usize, number: u32, start: *const i32, start_len: usize, sides: *const u32, sides_len: usize, grown: *mut usize) -> u32;
+        pub fn kx_sheet_insert(sheet: *mut u8, sheet_len: usize, len: usize, number: u32, start: *const i32, start_len: usize, sides: *const u32, sides_len: usize, fee_row: u16, grown: *mut usize) -> u32;
         pub fn kx_list(sheet: *const u8, sheet_len: usize, len: usize, text: *mut [u8; super::TEXT], written: *mut usize) -> u32;
     }
 }
@@ -275,7 +282,7 @@ pub fn enclose(tape: &[f64]) -> Result<Bounds, Refusal> {
     answer(|out: &mut Bounds| unsafe { calls::kx_enclose(tape.as_ptr(), tape.len(), out.as_mut_ptr(), out.len()) })
 }
 
-/// How many records the sheet in the first `len` bytes has.
+/// How many records the sheet in the first `len` bytes has, of [`BASE_RECORD`] or of [`FEE_RECORD`] bytes each.
 ///
 /// Refusals: `BadLength`, `BadTrailer`, `BadDistance`; then for each record `BadNumber`, `NotClosed`, `OffMap`.
 pub fn sheet_check(sheet: &[u8], len: usize) -> Result<u32, Refusal> {
@@ -284,17 +291,17 @@ pub fn sheet_check(sheet: &[u8], len: usize) -> Result<u32, Refusal> {
 
 /// Record k, counted from 0. Refusals: those of [`sheet_check`], then `NoRecord`.
 pub fn sheet_fetch(sheet: &[u8], len: usize, k: u32) -> Result<Plot, Refusal> {
-    answer(|Plot { number, start, sides }: &mut Plot| unsafe {
-        calls::kx_sheet_fetch(sheet.as_ptr(), sheet.len(), len, k, number, start.as_mut_ptr(), start.len(), sides.as_mut_ptr(), sides.len())
+    answer(|Plot { number, start, sides, fee_row }: &mut Plot| unsafe {
+        calls::kx_sheet_fetch(sheet.as_ptr(), sheet.len(), len, k, number, start.as_mut_ptr(), start.len(), sides.as_mut_ptr(), sides.len(), fee_row)
     })
 }
 
-/// Record k of a sheet in which [`sheet_check`] has counted `count` records, in constant time.
+/// Record k of a sheet that [`sheet_check`] accepts, in constant time: it checks no record.
 ///
-/// Refusals: `BadLength`, `BadDistance` when `count` records and a trailer are longer than `len`, `NoRecord`.
-pub fn sheet_read(sheet: &[u8], len: usize, count: u32, k: u32) -> Result<Plot, Refusal> {
-    answer(|Plot { number, start, sides }: &mut Plot| unsafe {
-        calls::kx_sheet_read(sheet.as_ptr(), sheet.len(), len, count, k, number, start.as_mut_ptr(), start.len(), sides.as_mut_ptr(), sides.len())
+/// Refusals: `BadLength`, `BadTrailer`, `BadDistance`, then `NoRecord` when k is not below the trailer's count.
+pub fn sheet_read(sheet: &[u8], len: usize, k: u32) -> Result<Plot, Refusal> {
+    answer(|Plot { number, start, sides, fee_row }: &mut Plot| unsafe {
+        calls::kx_sheet_read(sheet.as_ptr(), sheet.len(), len, k, number, start.as_mut_ptr(), start.len(), sides.as_mut_ptr(), sides.len(), fee_row)
     })
 }
 
@@ -303,20 +310,21 @@ pub fn sheet_start(sheet: &mut [u8], heading: usize) -> Result<usize, Refusal> {
     answer(|len: &mut usize| unsafe { calls::kx_sheet_start(sheet.as_mut_ptr(), sheet.len(), heading, len) })
 }
 
-/// Inserts a plot by its number: the new length.
+/// Inserts a plot by its number: the new length. A sheet whose records have [`BASE_RECORD`] bytes is written anew with [`RECORD`]
+/// bytes for each; its plots keep their numbers and outlines, and have the fee row 0.
 ///
 /// Refusals: first the outline's `NotClosed` and `OffMap`, then those of [`sheet_check`], `BadNumber`, `NoRoom`.
 pub fn sheet_insert(sheet: &mut [u8], len: usize, plot: &Plot) -> Result<usize, Refusal> {
-    let Plot { number, start, sides } = plot;
+    let Plot { number, start, sides, fee_row } = plot;
     answer(|grown: &mut usize| unsafe {
-        calls::kx_sheet_insert(sheet.as_mut_ptr(), sheet.len(), len, *number, start.as_ptr(), start.len(), sides.as_ptr(), sides.len(), grown)
+        calls::kx_sheet_insert(sheet.as_mut_ptr(), sheet.len(), len, *number, start.as_ptr(), start.len(), sides.as_ptr(), sides.len(), *fee_row, grown)
     })
 }
 
 /// The listing of the sheet in the first `len` bytes, at the start of `text`. It is always accepted: a sheet that [`sheet_check`]
 /// refuses has the listing `refused`, a space and the number.
 ///
-/// [`TEXT`] is some two thirds of a megabyte: take it from the heap, as in
+/// [`TEXT`] is some three quarters of a megabyte: take it from the heap, as in
 /// `let mut text: Box<[u8; TEXT]> = vec![0; TEXT].try_into().unwrap();`.
 pub fn list<'a>(sheet: &[u8], len: usize, text: &'a mut [u8; TEXT]) -> Result<&'a [u8], Refusal> {
     let written = answer(|written: &mut usize| unsafe { calls::kx_list(sheet.as_ptr(), sheet.len(), len, text, written) })?;

@@ -121,26 +121,65 @@ def tapes():
     yield surveyed("a point at the edge of the map", [4000.0625, -4000.125])
 
 
-def record(what, found):
-    return "%s: 0 number %d start %d %d sides %s\n" % (what, *found[:3], words(found[3]))
+def record(what, work):
+    """A line with a record, or with the number of a refusal."""
+    try:
+        plot, i, j, n, fee = work()
+    except Refused as refusal:
+        return "%s: %d\n" % (what, refusal.args[0])
+    return "%s: 0 number %d start %d %d sides %s fee row %d\n" % (what, plot, i, j, words(n), fee)
 
 
 def on_sheets():
-    sheet = bytearray(b"plots".ljust(96, b"\0"))
-    field = (2, -1, [3, 0, 1, 0] * 2)
+    sheet = bytearray(b"plots".ljust(102, b"\0"))
+    field = (*sheets.BLOCK, 65535)
     length = sheets.start(sheet, 5)
+
+    def fetched(what, k):
+        return record(what, lambda: sheets.fetch(sheet, length, k))
+
+    def read(what, k):
+        return record(what, lambda: sheets.read(sheet, length, k))
+
     yield "start: 0 length %d\n" % length
-    for plot, place in (11407, (0, 0, PIECES[12])), (70001, (*START, SIDES)), (7, field):
+    for plot, place in (11407, (*sheets.DIAMOND, 515)), (70001, (*START, SIDES, 40961)), (7, field):
         length = sheets.insert(sheet, length, plot, *place)
         yield "insert %d: 0 length %d\n" % (plot, length)
     yield "insert 7 again: %d\n" % number(lambda: sheets.insert(sheet, length, 7, *field))
     yield "insert 8, no room: %d\n" % number(lambda: sheets.insert(sheet, length, 8, *field))
     yield "check: 0 count %d\n" % len(sheets.check(sheet, length)) + sheets.listing(sheet, length)
-    yield record("record 1", sheets.fetch(sheet, length, 1)) + record("record 2", sheets.fetch(sheet, length, 2))
-    yield "record 3: %d\n" % number(lambda: sheets.fetch(sheet, length, 3))
-    yield record("record 0 of 3", sheets.fetch(sheet, length, 0))
+    for k in range(1, 4):
+        yield fetched("record %d" % k, k)
+    yield read("read 0", 0) + read("read 3", 3)
+    sheet[5] = 0
+    yield fetched("record 1 where number 7 is 0", 1) + read("read 1 where number 7 is 0", 1)
     sheet[length - 1] = ord("E")
-    yield sheets.listing(sheet, length)
+    yield sheets.listing(sheet, length) + read("read 1 where letters are wrong", 1)
+
+
+def on_base_sheets():
+    """A sheet whose records have 24 bytes, in a buffer of 100 bytes, of which some are lent."""
+    sheet = bytearray(sheets.old_sheet(b"old", (7, sheets.BLOCK), (11407, sheets.DIAMOND)))
+    length, past = len(sheet), b"\xee" * 100
+
+    def shown(buffer):
+        return "bytes %s\n" % (buffer + past)[:100].hex()
+
+    def inserted(room):
+        """The buffer after an insert that is lent so much of it, and the new length or a refusal."""
+        lent = (sheet + past)[:room]
+        try:
+            return lent, "0 length %d" % sheets.insert(lent, length, 258, *START, SIDES, 40961)
+        except Refused as refusal:
+            return lent, refusal.args[0]
+
+    yield "check: 0 count %d\n" % len(sheets.check(sheet, length)) + sheets.listing(sheet, length)
+    yield record("record 0", lambda: sheets.fetch(sheet, length, 0)) + record("read 1", lambda: sheets.read(sheet, length, 1))
+    yield "insert 258, room for 24 more: %s\n" % inserted(length + 24)[1]
+    yield "insert 258, one byte short: %s\n" % inserted(96)[1] + shown(sheet)
+    grown, answer = inserted(97)
+    yield "insert 258: %s\n" % answer + shown(grown) + sheets.listing(grown, 97)
+    yield record("record 1", lambda: sheets.fetch(grown, 97, 1))
 
 
 def limits():
@@ -160,12 +199,14 @@ def limits():
     length = sheets.start(sheet, 0)
     checks = [number(lambda: sheets.check(sheet, n)) for n in (16, 15)]
     yield "trailer %d: %d, one less: %d\n" % (length, *checks)
-    two = sheet[:40]
-    grown = sheets.insert(two, length, 1, 0, 0, [0] * 8)
-    three = two + bytes(23)
-    yield "record 24: 0, one less: %d, length %d\n" % (number(lambda: sheets.insert(three, grown, 2, 0, 0, [0] * 8)), grown)
+    named = [number(lambda: sheets.check(sheets.trailer(0, size), 16)) for size in (24, 26, 25, 27)]
+    yield "record lengths 24 26: %d %d, one more each: %d %d\n" % tuple(named)
+    two = sheet[:42]
+    grown = sheets.insert(two, length, 1, 0, 0, [0] * 8, 1)
+    three = two + bytes(25)
+    yield "record 26: 0, one less: %d, length %d\n" % (number(lambda: sheets.insert(three, grown, 2, 0, 0, [0] * 8, 1)), grown)
 
 
 if __name__ == "__main__":
-    for part in octagons, uneven, splits, tapes, on_sheets, limits:
+    for part in octagons, uneven, splits, tapes, on_sheets, on_base_sheets, limits:
         print("".join(part()), end="")

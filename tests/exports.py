@@ -20,7 +20,7 @@ OCTAGONS += [PLOT[-k:] + PLOT[:-k] for k in (2, 4, 6)] + [tightest(inside((-6, 1
 FRAMES = [1, 0, 1, 4, 3, 6, 5, 8, 7, 1, 1, 1, 8]
 FOLDS = [2, 0, 65536, 1, 1, 3, 1, 1, 1, 1, 1, 1, 1]
 CALLS = {**PAIRED, "normalise": lambda plot, frame, n: some(plot)}
-TEXT = 252 * ((65536 - 16) // 24 + 2)
+TEXT = 273 * ((65536 - 16) // 24 + 2)
 
 
 def called(fits, work, *lent):
@@ -127,10 +127,13 @@ def sheet_start(buffer, heading):
     return line("sheet_start", called(True, lambda: [[sheets.start(buffer, heading)]], length), length, [buffer.hex()])
 
 
-def sheet_insert(buffer, length, plot, start, sides):
-    grown = [101]
-    answer = called(len(sides) == 8, lambda: [[sheets.insert(buffer, length, plot, *start, sides)]], grown)
-    return line("sheet_insert", answer, grown, [buffer.hex()])
+def sheet_insert(buffer, length, plot, start, sides, fee, room=103):
+    """The call on the first bytes of a buffer."""
+    grown, lent = [101], bytearray(buffer[:room])
+    fits = len(start) == 2 and len(sides) == 8
+    answer = called(fits, lambda: [[sheets.insert(lent, length, plot, *start, sides, fee)]], grown)
+    buffer[:room] = lent
+    return line("sheet_insert", answer, grown, [lent.hex()])
 
 
 def sheet_check(buffer, length):
@@ -138,45 +141,72 @@ def sheet_check(buffer, length):
     return line("sheet_check", called(True, lambda: [[len(sheets.check(buffer, length))]], records), records)
 
 
-def sheet_fetch(buffer, k, start, sides):
+def record(name, call, buffer, length, k, start, sides):
     def work():
-        plot, i, j, n, _ = sheets.fetch(buffer, 91, k)
-        return [plot], [i, j], n
+        plot, i, j, n, fee = call(buffer, length, k)
+        return [plot], [i, j], n, [fee]
 
-    plot = [101]
-    return line("sheet_fetch", called(len(start) == 2, work, plot, start, sides), plot, start, sides)
+    plot, fee = [101], [401]
+    fits = len(start) == 2 and len(sides) == 8
+    return line(name, called(fits, work, plot, start, sides, fee), plot, start, sides, fee)
 
 
-def sheet_read(buffer, k, start, sides):
-    """A record of a sheet of 91 bytes in which 3 records were counted, by its place before the trailer."""
+def both(buffer, length, k, starts=2, numbers=8):
+    """A record by both calls, one after the other on the same memory."""
+    start, sides = from_number(201, starts), from_number(301, numbers)
+    fetched = record("sheet_fetch", sheets.fetch, buffer, length, k, start, sides)
+    return fetched + record("sheet_read", sheets.read, buffer, length, k, start, sides)
 
-    def work():
-        if k >= 3:
-            raise Refused(13)
-        plot, i, j, *n = struct.unpack_from("<Ihh8H", buffer, 91 - 16 - 24 * (3 - k))
-        return [plot], [i, j], n
 
-    plot = [101]
-    return line("sheet_read", called(len(start) == 2, work, plot, start, sides), plot, start, sides)
+def listed(buffer, length):
+    text = sheets.listing(buffer, length)
+    return line("list", 0, [len(text), TEXT]) + "\n" + text
+
+
+START, SIDES = [-4, -5], [3, 1, 14, 2, 5, 4, 6, 7]
+WEST = (513, [-1000, 2000], [303, 1, 714, 2, 305, 4, 706, 7])
+SOUTH = ([-8, -11], [6, 7, 3, 1, 14, 2, 5, 4])
+
+
+def refused_plots(buffer, length, room):
+    wrong = [(9, START, [4] + SIDES[1:]), (9, START, SIDES[:7]), (9, START + [8], SIDES)]
+    for plot, start, sides in [(9, START, SIDES), (513, START, SIDES)] + wrong:
+        yield sheet_insert(buffer, length, plot, start, sides, 52000, room)
+
+
+def records(buffer, length, cut):
+    for k in range(4):
+        yield both(buffer, length, k)
+    yield both(buffer, cut, 0) + both(buffer, length, 1, starts=1) + both(buffer, length, 1, numbers=7)
+    yield sheet_check(buffer, length) + sheet_check(buffer, cut)
+
+
+def started(buffer):
+    yield sheet_start(buffer, 88) + sheet_start(buffer, 3)
+    yield sheet_insert(buffer, 19, 70001, START, SIDES, 1800)
+    yield sheet_insert(buffer, 45, *WEST, 65535)
+    yield sheet_insert(buffer, 71, 16909060, *SOUTH, 0)
+    yield from refused_plots(buffer, 97, 103)
+    yield from records(buffer, 97, 96)
+
+
+def narrow(buffer):
+    yield from records(buffer, 67, 66)
+    yield from refused_plots(buffer, 67, 91)
+    yield sheet_insert(buffer, 67, 70000, *SOUTH, 256)
+    yield from records(buffer, 97, 96)
 
 
 def on_sheets():
-    buffer = bytearray(range(32, 127))
-    yield sheet_start(buffer, 80) + sheet_start(buffer, 3)
-    start, sides = [-4, -5], [3, 1, 14, 2, 5, 4, 6, 7]
-    yield sheet_insert(buffer, 19, 70001, start, sides)
-    yield sheet_insert(buffer, 43, 513, [-1000, 2000], [303, 1, 714, 2, 305, 4, 706, 7])
-    yield sheet_insert(buffer, 67, 16909060, [-8, -11], [6, 7, 3, 1, 14, 2, 5, 4])
-    for lengths in sides, [4] + sides[1:], sides[:7]:
-        yield sheet_insert(buffer, 91, 9, start, lengths)
-    for k in range(4):
-        start, sides = [201, 202], from_number(301, 8)
-        yield sheet_fetch(buffer, k, start, sides) + sheet_read(buffer, k, start, sides)
-    start, sides = [201], from_number(301, 8)
-    yield sheet_fetch(buffer, 1, start, sides) + sheet_read(buffer, 1, start, sides)
-    yield sheet_check(buffer, 91) + sheet_check(buffer, 92)
-    text = sheets.listing(buffer, 91)
-    yield line("list", 0, [len(text), TEXT]) + "\n" + text
+    buffer = bytearray([*range(32, 127), *range(128, 136)])
+    old = sheets.old_sheet(bytes(buffer[:3]), (513, (-1000, 2000, WEST[2])), (70001, (-4, -5, SIDES)))
+    other = bytearray(old) + buffer[len(old) :]
+    kept = bytes(other)
+    yield from started(buffer)
+    yield from narrow(other)
+    yield listed(buffer, 97) + listed(kept, 67) + listed(other, 97)
+    buffer[3:5] = b"\0\0"
+    yield both(buffer, 97, 0) + both(buffer, 97, 3) + listed(buffer, 97)
 
 
 if __name__ == "__main__":

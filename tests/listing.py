@@ -17,7 +17,7 @@ import subprocess
 import sys
 import time
 
-from sheets import SAMPLE, listing, plot, sheet
+from sheets import OLD, SAMPLE, listing, numbered, old_numbered, old_sheet, sheet
 
 PROGRAM = sys.argv[1] if len(sys.argv) > 1 else "target/bin/listing"
 UNREAD = b"listing: the input could not be read\n"
@@ -28,8 +28,9 @@ CASES = []
 # ---- sheets
 
 
-NESTED = sheet(SAMPLE, (3, plot(3)))  # its heading is itself a sheet
-LARGEST = sheet(b"", *((number, plot(number)) for number in range(1, 2731)))  # 65,536 bytes
+NESTED = sheet(SAMPLE, *numbered(3))  # its heading is itself a sheet
+LARGEST = sheet(b"", *numbered(*range(1, 2521)))  # 65,536 bytes, by 26 a record
+FULLEST = old_sheet(b"", *old_numbered(*range(1, 2731)))  # 65,536 bytes, by 24 a record: more plots, and a longer listing
 
 
 @functools.lru_cache()
@@ -136,6 +137,13 @@ def nested_sheet():
 
 
 @case
+def records_without_fee_rows():
+    assert listed(OLD)[0] != listed(SAMPLE)[0] and listed(OLD)[0].count(b" 0\n") == 3
+    yield from_pipe(OLD, True, True), listed(OLD)
+    yield from_pipe(SAMPLE + OLD, True, True), listed(OLD)
+
+
+@case
 def pause_that_ends():
     """The writer pauses after a whole sheet, and then goes on, or ends."""
     for data in NESTED, SAMPLE:
@@ -168,11 +176,12 @@ def byte_by_byte():
 
 @case
 def longest_and_longer():
-    longer = b"x" + LARGEST
-    assert len(LARGEST) == 65536 and listed(LARGEST)[0].startswith(b"plot") and listed(longer)[0] == b"refused 8\n"
-    yield from_pipe(LARGEST, True, True), listed(LARGEST)
-    yield from_pipe(longer, True, True), listed(longer)
-    yield from_pipe(longer + LARGEST, True, True), listed(longer)
+    for longest in LARGEST, FULLEST:
+        longer = b"x" + longest
+        assert len(longest) == 65536 and listed(longest)[0].startswith(b"plot") and listed(longer)[0] == b"refused 8\n"
+        yield from_pipe(longest, True, True), listed(longest)
+        yield from_pipe(longer, True, True), listed(longer)
+        yield from_pipe(longer + longest, True, True), listed(longer)
 
 
 @case

@@ -1,10 +1,11 @@
 #!/usr/bin/env python3
-"""Sheets and listings by document 01, worked out apart from the crates: an own reading of the format, and cells counted one by one.
+"""Sheets and listings by documents 01 and 02, worked out apart from the crates: an own reading of the format, and cells counted one by one.
 
     python3 tests/sheets.py write    writes stdin and stdout of crates/listing and crates/listing_cases, and crates/sheet_cases/stdout
     python3 tests/sheets.py try      runs target/bin/listing, as `rt check listing` leaves it, on 400 random sheets, good and spoilt
 
-Run it from the top of the repository. It needs Python 3.9 or newer and nothing else.
+A record has 26 bytes, of which the last two are its fee row, or 24, and then its fee row is 0. What crates/sheet_cases writes is worked out
+in tests/sheet_cases.py. Run this from the top of the repository. It needs Python 3.9 or newer and nothing else.
 """
 import functools
 import random
@@ -72,43 +73,73 @@ def walked_cells(i, j, n):
 # ---- sheets
 
 
-def record(number, i, j, n):
+def record(number, i, j, n, fee):
+    return struct.pack("<Ihh8HH", number, i, j, *n, fee)
+
+
+def old_record(number, i, j, n):
     return struct.pack("<Ihh8H", number, i, j, *n)
 
 
-def trailer(count):
-    return struct.pack("<IIHH4s", 24 * count, count, 24, 0, b"GRND")
+def trailer(count, size):
+    return struct.pack("<IIHH4s", size * count, count, size, 0, b"GRND")
 
 
 def sheet(heading, *plots):
-    """The bytes of a sheet with these plots, each (number, outline)."""
-    return heading + b"".join(record(number, *outline) for number, outline in plots) + trailer(len(plots))
+    """The bytes of a sheet of 26 with these plots, each (number, outline, fee row)."""
+    return heading + b"".join(record(number, *outline, fee) for number, outline, fee in plots) + trailer(len(plots), 26)
 
 
-def check(buffer, length):
-    """The records of a sheet, each (number, i, j, n, count of cells)."""
+def old_sheet(heading, *plots):
+    """The bytes of a sheet of 24 with these plots, each (number, outline)."""
+    return heading + b"".join(old_record(number, *outline) for number, outline in plots) + trailer(len(plots), 24)
+
+
+def frame(buffer, length):
+    """The bytes of each record of a sheet, and the index of the first."""
     if length < 16 or length > LIMIT or length > len(buffer):
         raise Refused(8)
     distance, count, size, zeros, letters = struct.unpack("<IIHH4s", bytes(buffer[length - 16 : length]))
-    if letters != b"GRND" or size != 24 or zeros != 0:
+    if letters != b"GRND" or size not in (24, 26) or zeros != 0:
         raise Refused(9)
-    if distance != 24 * count or distance > length - 16:
+    if distance != size * count or distance > length - 16:
         raise Refused(10)
+    first = length - 16 - distance
+    return [bytes(buffer[at : at + size]) for at in range(first, length - 16, size)], first
+
+
+def fields(data):
+    """Number, i, j, sides and fee row of the 26 or 24 bytes of a record."""
+    number, i, j, *n = struct.unpack("<Ihh8H", data[:24])
+    return number, i, j, n, int.from_bytes(data[24:], "little")
+
+
+def check(buffer, length):
+    """The records of a sheet, each (number, i, j, n, fee row, count of cells)."""
     found, before = [], 0
-    for at in range(length - 16 - distance, length - 16, 24):
-        number, i, j, *n = struct.unpack("<Ihh8H", bytes(buffer[at : at + 24]))
+    for data in frame(buffer, length)[0]:
+        number, i, j, n, fee = fields(data)
         if number == 0 or number <= before:
             raise Refused(11)
-        found.append((number, i, j, n, cells(i, j, n)))
+        found.append((number, i, j, n, fee, cells(i, j, n)))
         before = number
     return found
 
 
 def fetch(buffer, length, k):
+    """Number, i, j, sides and fee row of record k."""
     found = check(buffer, length)
     if k >= len(found):
         raise Refused(13)
-    return found[k]
+    return found[k][:5]
+
+
+def read(buffer, length, k):
+    """The same with no look at the records."""
+    rows, _ = frame(buffer, length)
+    if k >= len(rows):
+        raise Refused(13)
+    return fields(rows[k])
 
 
 def start(buffer, heading):
@@ -116,22 +147,23 @@ def start(buffer, heading):
         raise Refused(8)
     if heading + 16 > len(buffer):
         raise Refused(12)
-    buffer[heading : heading + 16] = trailer(0)
+    buffer[heading : heading + 16] = trailer(0, 26)
     return heading + 16
 
 
-def insert(buffer, length, number, i, j, n):
+def insert(buffer, length, number, i, j, n, fee):
     cells(i, j, n)
     found = check(buffer, length)
     if number == 0 or number in [r[0] for r in found]:
         raise Refused(11)
-    if length + 24 > len(buffer) or length + 24 > LIMIT:
+    _, first = frame(buffer, length)
+    rows = sorted([r[:5] for r in found] + [(number, i, j, n, fee)])
+    after = b"".join(record(*r) for r in rows) + trailer(len(rows), 26)
+    end = first + len(after)
+    if end > len(buffer) or end > LIMIT:
         raise Refused(12)
-    first = length - 16 - 24 * len(found)
-    rows = sorted([(r[0], r[1], r[2], r[3]) for r in found] + [(number, i, j, n)])
-    after = b"".join(record(*r) for r in rows) + trailer(len(rows))
-    buffer[first : length + 24] = after
-    return length + 24
+    buffer[first:end] = after
+    return end
 
 
 # ---- listings
@@ -142,10 +174,10 @@ def listing(buffer, length):
         found = check(buffer, length)
     except Refused as r:
         return "refused %d\n" % r.args[0]
-    lines = ["plot i j n0 n1 n2 n3 n4 n5 n6 n7 cells"]
-    for number, i, j, n, count in found:
-        lines.append(" ".join(str(v) for v in [number, i, j] + n + [count]))
-    lines.append("plots %d cells %d" % (len(found), sum(r[4] for r in found)))
+    lines = ["plot i j n0 n1 n2 n3 n4 n5 n6 n7 cells fee"]
+    for number, i, j, n, fee, count in found:
+        lines.append(" ".join(str(v) for v in [number, i, j] + n + [count, fee]))
+    lines.append("plots %d cells %d" % (len(found), sum(r[5] for r in found)))
     return "".join(line + "\n" for line in lines)
 
 
@@ -171,170 +203,35 @@ def plot(number):
     return (i, j, n)
 
 
-# ---- the cases of crates/sheet_cases
+def fee_row(number):
+    """The fee row of the plot with a number: above every side, and no coordinate's bytes."""
+    return 40000 + 7 * number % 9973
 
 
-class Cases:
-    """The program's calls, in its order, and what it writes."""
-
-    def __init__(self):
-        self.out = b""
-
-    def say(self, text):
-        self.out += text.encode() if isinstance(text, str) else bytes(text)
-
-    def say_digest(self, data):
-        digest = 0
-        for byte in data:
-            digest = (digest * 31 + byte) % 2**32
-        self.say("digest %d\n" % digest)
-
-    def tell_written(self, call, length):
-        """What a call answers, written out, and the length of the sheet after it."""
-        try:
-            length = call()
-            self.say("length %d\n" % length)
-        except Refused as r:
-            self.say("refused %d\n" % r.args[0])
-        return length
-
-    def tell_added(self, buffer, length, number, outline):
-        return self.tell_written(lambda: insert(buffer, length, number, *outline), length)
-
-    def say_fetched(self, buffer, length, *places):
-        for k in places:
-            try:
-                number, i, j, n, _ = fetch(buffer, length, k)
-                self.say("record " + " ".join(str(v) for v in [number, i, j] + n) + "\n")
-            except Refused as r:
-                self.say("refused %d\n" % r.args[0])
-
-    def show(self, buffer, length):
-        self.say(listing(buffer, length))
-
-    def samples(self):
-        buffer = bytearray(sheet(b"", (7, BLOCK), (11407, DIAMOND)))
-        self.show(buffer, 64)
-        self.show(buffer, self.tell_written(lambda: start(buffer, 48), 0))
-
-    def spoilt(self):
-        for at in range(64):
-            buffer = pair(64)
-            buffer[at] = (buffer[at] + 1) % 256
-            self.show(buffer, 64)
-        for changes in TWO_BYTES:
-            buffer = pair(64)
-            for at, byte in changes:
-                buffer[at] = byte
-            self.show(buffer, 64)
-        for length in (0, 15, 16, 63, 65, 2**64 - 1):
-            self.show(pair(64), length)
-
-    def orders(self):
-        for length, number, outline in (
-            (15, 0, wide(15440, 0, 301)),
-            (15, 0, wide(0, 1, 301)),
-            (15, 0, wide(15440, 0)),
-            (15, 0, wide(0, 14703)),
-            (15, 0, wide(-15485, 0)),
-            (15, 0, wide(0, -16001)),
-            (15, 0, plot(9)),
-            (63, 0, plot(9)),
-            (64, 0, plot(9)),
-            (64, 255, plot(9)),
-            (64, 511, plot(9)),
-            (64, 9, plot(9)),
-        ):
-            buffer = pair(87)
-            self.tell_added(buffer, length, number, outline)
-            self.say_digest(buffer)
-
-    def last_number(self):
-        last = 2**32 - 1
-        buffer = pair(88)
-        full = self.tell_added(buffer, 64, last, plot(last))
-        self.tell_added(buffer, full, last, plot(9))
-        self.tell_added(buffer, full, 9, plot(9))
-        self.say_fetched(buffer, full, 0, 1, 2, 3, last)
-        self.say_fetched(buffer, 87, last)
-
-    def limits(self):
-        for size, lengths in ((87, ()), (65535, ()), (65536, (65536,)), (65537, (65536, 65537))):
-            buffer = bytearray([170] * size)
-            for heading in (65520, 65521, 71, 72, 2**64 - 1):
-                self.tell_written(lambda: start(buffer, heading), 0)
-                self.say_digest(buffer)
-            for length in lengths:
-                self.show(buffer, length)
-
-    def ordered(self, numbers):
-        buffer = bytearray([170] * 160)
-        heading = b"Plots of the parish\n"
-        buffer[: len(heading)] = heading
-        length = self.tell_written(lambda: start(buffer, len(heading)), 0)
-        for number in numbers:
-            length = self.tell_added(buffer, length, number, plot(number))
-        self.say(buffer[: len(heading)])
-        self.show(buffer, length)
-        self.say_fetched(buffer, length, 0, 1, 2)
-        end = length
-        while end < len(buffer) and buffer[end] == 170:
-            end += 1
-        self.say("kept %d\n" % end)
-
-    def largest(self):
-        def show_digest():
-            text = listing(buffer, length).encode()
-            self.say("listing %d\n" % len(text))
-            self.say_digest(text)
-
-        # the sheet that 2,730 inserts in any order leave
-        buffer = bytearray(sheet(b"", *((number, plot(number)) for number in range(1, 2731)))) + bytearray(64)
-        length = 65536
-        self.say("length %d\n" % length)
-        show_digest()
-        self.say_fetched(buffer, length, 0, 1364, 2729, 2730)
-        self.tell_added(buffer, length, 2731, plot(2731))
-        show_digest()
-        self.show(buffer, 65537)
-
-    def run(self):
-        self.samples()
-        self.spoilt()
-        self.orders()
-        self.last_number()
-        self.limits()
-        for numbers in ((7, 256, 65537), (65537, 256, 7), (256, 65537, 7)):
-            self.ordered(numbers)
-        self.largest()
-        return self.out
+def numbered(*numbers):
+    """The plots with these numbers, each (number, outline, fee row)."""
+    return [(number, plot(number), fee_row(number)) for number in numbers]
 
 
-def pair(size):
-    """A buffer that starts with a sheet of 64 bytes: a plot up to the east and north edges of the map, and another."""
-    data = sheet(b"", (255, wide(15439, 14702)), (511, plot(511)))
-    return bytearray(data + bytes(size - len(data)))
-
-
-# two bytes of that sheet, each with its index: number at 0 and 24, i at 4 and 28, j at 6 and 30, the sides from 8 and 32 on, distance at
-# 48, count at 52, letters at 60
-TWO_BYTES = (
-    ((8, 43), (16, 33)),
-    ((52, 3), (48, 72)),
-    ((52, 1), (48, 24)),
-    ((60, 0), (48, 0)),
-    ((48, 0), (0, 0)),
-    ((0, 0), (8, 0)),
-    ((8, 0), (5, 127)),
-    ((8, 0), (25, 0)),
-    ((5, 127), (32, 0)),
-)
+def old_numbered(*numbers):
+    """The same without fee rows, for a sheet of 24."""
+    return [(number, plot(number)) for number in numbers]
 
 
 # ---- what the programs read and write
 
 
-SAMPLE = sheet(b"", (7, BLOCK), (11407, DIAMOND), (0x01020304, wide(-300, 515)))
+PLOTS = [(7, BLOCK), (11407, DIAMOND), (0x01020304, wide(-300, 515))]
+SAMPLE = sheet(b"", *((number, outline, fee) for (number, outline), fee in zip(PLOTS, (12, 3, 65535))))
+
+# the sheet of 24 of these plots, as an insert of document 01 made it, kept as its bytes
+OLD = bytes.fromhex(
+    "070000000200ffff03000000010000000300000001000000"
+    "8f2c00000000000000000100000001000000010000000100"
+    "04030201d4fe03022c0105010604070022040c0002030402"
+    "48000000030000001800000047524e44"
+)
+assert OLD == old_sheet(b"", *PLOTS)
 
 
 def longest(line, *plots):
@@ -345,14 +242,16 @@ def longest(line, *plots):
 
 def two_inputs():
     """A sheet of 65,536 bytes and a byte, then a sheet of 65,536 bytes; what is written for each."""
-    first = longest(b"A heading of the sheet that one byte follows.\n", *((v, plot(v)) for v in (12, 345, 0x0A0B0C0D))) + b"\n"
-    second = longest(b"A heading of the sheet that nothing follows.\n", *((v, plot(v)) for v in (21, 546, 0x0B0C0D08)))
+    first = longest(b"A heading of the sheet that one byte follows.\n", *numbered(12, 345, 0x0A0B0C0D)) + b"\n"
+    second = longest(b"A heading of the sheet that nothing follows.\n", *numbered(21, 546, 0x0B0C0D08))
     assert (len(first), len(second)) == (65537, 65536)
     assert listing(first, 65536) != listing(second, 65536) and listing(first, 65536).startswith("plot")
     return first + second, listing(first, len(first)) + listing(second, len(second))
 
 
 def write():
+    from sheet_cases import Cases  # that file stands on this one
+
     inputs, listings = two_inputs()
     for name, data in (
         ("crates/listing/stdin", SAMPLE),
@@ -395,15 +294,27 @@ def random_outline(rng):
     return (starts[0], starts[1], n)
 
 
+def random_fee(rng):
+    return rng.choice([0, 1, 255, 256, 65535, rng.randrange(65536)])
+
+
+def random_record(rng, number, size):
+    outline = random_outline(rng)
+    return old_record(number, *outline) if size == 24 else record(number, *outline, random_fee(rng))
+
+
 def random_sheet(rng):
+    """A sheet of 24 or of 26, at times spoilt: a number, a byte of the last record or of the trailer, the record length, or the length."""
+    size = rng.choice([24, 26])
     count = rng.choice([0, 1, 2, 3, 10, 60])
     numbers = sorted(rng.sample(range(1, 2**32 if rng.random() < 0.5 else 5000), count))
     if count > 1 and rng.random() < 0.1:
         numbers[rng.randrange(count - 1)] = rng.choice([0, numbers[-1]])
-    body = b"".join(record(v, *random_outline(rng)) for v in numbers)
-    data = bytearray(rng.randbytes(rng.randrange(30)) + body + trailer(count))
+    body = b"".join(random_record(rng, v, size) for v in numbers)
+    stated = 50 - size if rng.random() < 0.05 else size
+    data = bytearray(rng.randbytes(rng.randrange(30)) + body + trailer(count, stated))
     if rng.random() < 0.3:
-        at = max(0, len(data) - 1 - rng.randrange(24 + 16))
+        at = max(0, len(data) - 1 - rng.randrange(size + 16))
         data[at] = rng.randrange(256)
     if rng.random() < 0.05:
         data = bytearray(rng.randbytes(LIMIT + 1 - len(data) - rng.randrange(3) + 1)) + data
@@ -422,9 +333,9 @@ def attempt():
         given = subprocess.run(["target/bin/listing"], input=data, capture_output=True, check=True)
         if (given.stdout, given.stderr) != (expected.encode(), b""):
             sys.exit("sheet %d: expected\n%sbut target/bin/listing wrote\n%s%s" % (k, expected, given.stdout, given.stderr))
-        kind = expected.split("\n")[0] if expected.startswith("refused") else "listed"
+        kind = expected.split("\n")[0] if expected.startswith("refused") else "listed at %d" % data[-8]
         seen[kind] = seen.get(kind, 0) + 1
-        if kind == "listed":
+        if kind.startswith("listed"):
             found = check(data, len(data))
             listed += len(found)
             uneven += sum(len(set(r[3])) == 8 for r in found)

@@ -1,5 +1,5 @@
--- Document 01's limits, refusal numbers and tables, and document 02's refusal numbers, with the values that they print, by one computed
--- test over a list. Theorems name constants; this list says what the constants are. Assumes nothing.
+-- Document 01's limits, refusal numbers and tables, and document 02's refusal numbers and record length, with the values that they print,
+-- by one computed test over a list. Theorems name constants; this list says what the constants are. Assumes nothing.
 use mathlib.Core.Path.{_≡_, refl}
 use mathlib.Core.List.{List, [], _∷_, map}
 use Prim.Native.Nat.{ℕ, _*_}
@@ -16,7 +16,7 @@ use Rattle.morphology.specs.Operations.{opposed-rows, nothing-left}
 use Rattle.morphology.specs.Folds.{fold-limit, too-many-folds}
 use Rattle.decomposition.specs.Pieces.{outlines, piece-of}
 use Rattle.records.specs.Numbers.{bytes}
-use Rattle.sheet.specs.Layout.{layout, record-length}
+use Rattle.sheet.specs.Layout.{base-layout, base-length, fee-layout, fee-length, record-length}
 use Rattle.sheet.specs.Trailer.{trailer-length, letters, trailer-layout}
 use Rattle.sheet.specs.Sheets.{sheet-limit}
 use Rattle.sheet.specs.Answers.{bad-length, bad-trailer, bad-distance, bad-number, no-room, no-record}
@@ -27,9 +27,9 @@ use Rattle.cases.specs.Shorthand.{Case, is}
 -- ---- what the documents print
 
 -- "both coordinates from -16,000 to 16,000", "6 when n is above 65,535", "8 when the length is .. above 65,536", "A record is 24 bytes",
--- "The trailer is 16 bytes"
+-- and in document 02 "New records are 26 bytes, and starting a sheet and insert write 26"; "The trailer is 16 bytes"
 abbrev pub printed-limits : List ℕ
-printed-limits = 16000 ∷ 65535 ∷ 65536 ∷ 24 ∷ 16 ∷ []
+printed-limits = 16000 ∷ 65535 ∷ 65536 ∷ 24 ∷ 26 ∷ 26 ∷ 16 ∷ []
 
 -- the refusals: no cell, off the map, not closed, opposed rows, nothing left, too many folds, corner above 7, length, trailer, distance,
 -- plot number, no room, no record; and those of document 02: not finite, no point, half a point
@@ -40,9 +40,10 @@ printed-refusals = 1 ∷ 2 ∷ 3 ∷ 4 ∷ 5 ∷ 6 ∷ 7 ∷ 8 ∷ 9 ∷ 10 ∷ 
 abbrev pub printed-letters : List ℕ
 printed-letters = 71 ∷ 82 ∷ 78 ∷ 68 ∷ []
 
--- the fields of a record in bits, "plot number (unsigned 32), i and j (signed 16 each), n0 to n7 (unsigned 16 each)", and those of a trailer
-abbrev pub printed-record-fields : List ℕ
-printed-record-fields = 32 ∷ 16 ∷ 16 ∷ replicate 8 16
+-- the fields of a record in bits, "plot number (unsigned 32), i and j (signed 16 each), n0 to n7 (unsigned 16 each)", and last those of the
+-- fee row: 0 where there is none, or "an unsigned 16-bit fee row"; and the fields of a trailer
+abbrev pub printed-record-fields : ℕ → List ℕ
+printed-record-fields fee = 32 ∷ 16 ∷ 16 ∷ 16 ∷ 16 ∷ 16 ∷ 16 ∷ 16 ∷ 16 ∷ 16 ∷ 16 ∷ fee ∷ []
 
 abbrev pub printed-trailer-fields : List ℕ
 printed-trailer-fields = 32 ∷ 32 ∷ 16 ∷ 16 ∷ 32 ∷ []
@@ -98,11 +99,12 @@ thirteen = 0 ∷ 1 ∷ 2 ∷ 3 ∷ 4 ∷ 5 ∷ 6 ∷ 7 ∷ 8 ∷ 9 ∷ 10 ∷ 11
 
 pub fixed-numbers : List (Case Fixed)
 fixed-numbers =
-    is (numbers (limit ∷ fold-limit ∷ sheet-limit ∷ record-length ∷ trailer-length ∷ [])) (numbers printed-limits) ∷
+    is (numbers (limit ∷ fold-limit ∷ sheet-limit ∷ base-length ∷ fee-length ∷ record-length ∷ trailer-length ∷ [])) (numbers printed-limits) ∷
     is (numbers (no-cell ∷ off-map ∷ not-closed ∷ opposed-rows ∷ nothing-left ∷ too-many-folds ∷ no-vertex ∷ bad-length ∷ bad-trailer ∷ bad-distance ∷ bad-number ∷ no-room ∷ no-record ∷ not-finite ∷ no-point ∷ half-point ∷ []))
     (numbers printed-refusals) ∷
     is (numbers (bytes 4 letters)) (numbers printed-letters) ∷
-    is (numbers (map (λ w. 8 * w) layout)) (numbers printed-record-fields) ∷
+    is (numbers (map (λ w. 8 * w) base-layout)) (numbers (printed-record-fields 0)) ∷
+    is (numbers (map (λ w. 8 * w) fee-layout)) (numbers (printed-record-fields 16)) ∷
     is (numbers (map (λ w. 8 * w) trailer-layout)) (numbers printed-trailer-fields) ∷
     is (vectors steps) (vectors printed-steps) ∷
     is (table pieces) (table printed-pieces) ∷

@@ -11,14 +11,17 @@ use outline::Outline;
 use outline::tables::STEPS;
 use outline::tables::piece_sides;
 
-// The limits of the map, of folds and of a sheet's length, and the lengths of a record and of a trailer.
-fn limits() -> [u32; 5]
+// The limits of the map, of folds and of a sheet's length, and the lengths of a record without and with a fee row, of one that is written,
+// and of a trailer.
+fn limits() -> [u32; 7]
     ensures { λ r. ⌜ r ≡ numbers.printed-limits ⌝ }
 {
     [
         Octagon::LIMIT as u32,
         morphology::folds::FOLD_LIMIT,
         sheet::LIMIT as u32,
+        sheet::BASE_RECORD as u32,
+        sheet::FEE_RECORD as u32,
         sheet::RECORD as u32,
         sheet::TRAILER as u32,
     ]

@@ -2,6 +2,7 @@
 // memory that it was lent, as it is afterwards. tests/exports.py works the expected output out on its own.
 mod octagons;
 mod outlines;
+mod plots;
 mod print;
 mod samples;
 mod sheets;
@@ -23,5 +24,5 @@ fn main() {
     each_octagon();
     octagons::misfits();
     tapes::tapes();
-    sheets::sheets();
+    plots::plots();
 }

@@ -24,6 +24,18 @@ pub fn octagon(k: usize) -> [i32; 8] {
     OCTAGONS[k % 13]
 }
 
+// How many bytes the buffers of sheets have.
+pub const ROOM: usize = 103;
+
 // A buffer whose bytes all differ.
-pub const BUFFER: [u8; 95] =
-    *b" !\"#$%&'()*+,-./0123456789:;<=>?@ABCDEFGHIJKLMNOPQRSTUVWXYZ[\\]^_`abcdefghijklmnopqrstuvwxyz{|}~";
+pub const BUFFER: [u8; ROOM] = *b"\
+    \x20!\"#$%&'()*+,-./0123456789:;<=>?@ABCDEFGHIJKLMNOPQRSTUVWXYZ[\\]^_`abcdefghijklmnopqrstuvwxyz{|}~\
+    \x80\x81\x82\x83\x84\x85\x86\x87";
+
+// The same, with a sheet of 24 in its first 67 bytes: three bytes of heading, the plots 513 and 70001, and the trailer.
+pub const NARROW: [u8; ROOM] = *b"\
+    \x20!\"\
+    \x01\x02\0\0\x18\xfc\xd0\x07\x2f\x01\x01\0\xca\x02\x02\0\x31\x01\x04\0\xc2\x02\x07\0\
+    \x71\x11\x01\0\xfc\xff\xfb\xff\x03\0\x01\0\x0e\0\x02\0\x05\0\x04\0\x06\0\x07\0\
+    \x30\0\0\0\x02\0\0\0\x18\0\0\0GRND\
+    cdefghijklmnopqrstuvwxyz{|}~\x80\x81\x82\x83\x84\x85\x86\x87";

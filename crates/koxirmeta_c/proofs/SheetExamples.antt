@@ -60,9 +60,10 @@ splittings = refl
 
 -- ---- sheets
 
--- the plot with the number 70001, and one with the number 513 from (-8, -11) with the sides 6 7 3 1 14 2 5 4
+-- the plot with the number 70001 and the fee row 772, and one with the number 513 and the fee row 12 from (-8, -11) with the sides
+-- 6 7 3 1 14 2 5 4
 abbrev numbered : Record
-numbered = record { number = 70001; outline = plot-outline }
+numbered = record { number = 70001; outline = plot-outline; «fee_row» = 772 }
 
 abbrev other-start : List ℤ
 other-start = negsuc 7 ∷ negsuc 10 ∷ []
@@ -70,55 +71,55 @@ other-start = negsuc 7 ∷ negsuc 10 ∷ []
 abbrev other-sides : List ℕ
 other-sides = 6 ∷ 7 ∷ 3 ∷ 1 ∷ 14 ∷ 2 ∷ 5 ∷ 4 ∷ []
 
--- a sheet of no records after a heading of 3 bytes, in a buffer of 70
+-- a sheet of no records after a heading of 3 bytes, in a buffer of 74 (its record length is document 01's)
 abbrev empty-sheet : List ℕ
-empty-sheet = 1 ∷ 2 ∷ 3 ∷ 0 ∷ 0 ∷ 0 ∷ 0 ∷ 0 ∷ 0 ∷ 0 ∷ 0 ∷ 24 ∷ 0 ∷ 0 ∷ 0 ∷ 71 ∷ 82 ∷ 78 ∷ 68 ∷ replicate 51 9
+empty-sheet = 1 ∷ 2 ∷ 3 ∷ 0 ∷ 0 ∷ 0 ∷ 0 ∷ 0 ∷ 0 ∷ 0 ∷ 0 ∷ 24 ∷ 0 ∷ 0 ∷ 0 ∷ 71 ∷ 82 ∷ 78 ∷ 68 ∷ replicate 55 9
 
 -- with 70001, and with 513 before it
 abbrev one-plot : List ℕ
 one-plot =
     1 ∷ 2 ∷ 3 ∷
-    113 ∷ 17 ∷ 1 ∷ 0 ∷ 252 ∷ 255 ∷ 251 ∷ 255 ∷ 3 ∷ 0 ∷ 1 ∷ 0 ∷ 14 ∷ 0 ∷ 2 ∷ 0 ∷ 5 ∷ 0 ∷ 4 ∷ 0 ∷ 6 ∷ 0 ∷ 7 ∷ 0 ∷
-    24 ∷ 0 ∷ 0 ∷ 0 ∷ 1 ∷ 0 ∷ 0 ∷ 0 ∷ 24 ∷ 0 ∷ 0 ∷ 0 ∷ 71 ∷ 82 ∷ 78 ∷ 68 ∷
-    replicate 27 9
+    113 ∷ 17 ∷ 1 ∷ 0 ∷ 252 ∷ 255 ∷ 251 ∷ 255 ∷ 3 ∷ 0 ∷ 1 ∷ 0 ∷ 14 ∷ 0 ∷ 2 ∷ 0 ∷ 5 ∷ 0 ∷ 4 ∷ 0 ∷ 6 ∷ 0 ∷ 7 ∷ 0 ∷ 4 ∷ 3 ∷
+    26 ∷ 0 ∷ 0 ∷ 0 ∷ 1 ∷ 0 ∷ 0 ∷ 0 ∷ 26 ∷ 0 ∷ 0 ∷ 0 ∷ 71 ∷ 82 ∷ 78 ∷ 68 ∷
+    replicate 29 9
 
 abbrev two-plots : List ℕ
 two-plots =
     1 ∷ 2 ∷ 3 ∷
-    1 ∷ 2 ∷ 0 ∷ 0 ∷ 248 ∷ 255 ∷ 245 ∷ 255 ∷ 6 ∷ 0 ∷ 7 ∷ 0 ∷ 3 ∷ 0 ∷ 1 ∷ 0 ∷ 14 ∷ 0 ∷ 2 ∷ 0 ∷ 5 ∷ 0 ∷ 4 ∷ 0 ∷
-    113 ∷ 17 ∷ 1 ∷ 0 ∷ 252 ∷ 255 ∷ 251 ∷ 255 ∷ 3 ∷ 0 ∷ 1 ∷ 0 ∷ 14 ∷ 0 ∷ 2 ∷ 0 ∷ 5 ∷ 0 ∷ 4 ∷ 0 ∷ 6 ∷ 0 ∷ 7 ∷ 0 ∷
-    48 ∷ 0 ∷ 0 ∷ 0 ∷ 2 ∷ 0 ∷ 0 ∷ 0 ∷ 24 ∷ 0 ∷ 0 ∷ 0 ∷ 71 ∷ 82 ∷ 78 ∷ 68 ∷
+    1 ∷ 2 ∷ 0 ∷ 0 ∷ 248 ∷ 255 ∷ 245 ∷ 255 ∷ 6 ∷ 0 ∷ 7 ∷ 0 ∷ 3 ∷ 0 ∷ 1 ∷ 0 ∷ 14 ∷ 0 ∷ 2 ∷ 0 ∷ 5 ∷ 0 ∷ 4 ∷ 0 ∷ 12 ∷ 0 ∷
+    113 ∷ 17 ∷ 1 ∷ 0 ∷ 252 ∷ 255 ∷ 251 ∷ 255 ∷ 3 ∷ 0 ∷ 1 ∷ 0 ∷ 14 ∷ 0 ∷ 2 ∷ 0 ∷ 5 ∷ 0 ∷ 4 ∷ 0 ∷ 6 ∷ 0 ∷ 7 ∷ 0 ∷ 4 ∷ 3 ∷
+    52 ∷ 0 ∷ 0 ∷ 0 ∷ 2 ∷ 0 ∷ 0 ∷ 0 ∷ 26 ∷ 0 ∷ 0 ∷ 0 ∷ 71 ∷ 82 ∷ 78 ∷ 68 ∷
     replicate 3 9
 
-pub plots : (plot 70001 plot-start plot-sides ≡ numbered) × (plot-of numbered ≡ (70001, plot-start, plot-sides))
+pub plots : (plot 70001 plot-start plot-sides 772 ≡ numbered) × (plot-of numbered ≡ (70001, plot-start, plot-sides, 772))
 unfolding plot outline-in start sides-of
 plots = (refl, refl)
 
 -- what an insert leaves: accepted twice, refused as not closing, and with each slice of a wrong length
-pub sheets : (after-inserting empty-sheet 19 70001 plot-start plot-sides ∷ after-inserting one-plot 43 513 other-start other-sides
-    ∷ after-inserting one-plot 43 513 plot-start thirteen ∷ after-inserting one-plot 43 513 other-start seven-sides ∷ after-inserting one-plot 43 513 one-number other-sides
-    ∷ after-inserting one-plot 43 513 plot-start (4 ∷ 1 ∷ 14 ∷ 2 ∷ 5 ∷ 4 ∷ 6 ∷ 7 ∷ []) ∷ [])
+pub sheets : (after-inserting empty-sheet 19 70001 plot-start plot-sides 772 ∷ after-inserting one-plot 45 513 other-start other-sides 12
+    ∷ after-inserting one-plot 45 513 plot-start thirteen 12 ∷ after-inserting one-plot 45 513 other-start seven-sides 12 ∷ after-inserting one-plot 45 513 one-number other-sides 12
+    ∷ after-inserting one-plot 45 513 plot-start (4 ∷ 1 ∷ 14 ∷ 2 ∷ 5 ∷ 4 ∷ 6 ∷ 7 ∷ []) 12 ∷ [])
     ≡ (one-plot ∷ two-plots ∷ one-plot ∷ one-plot ∷ one-plot ∷ one-plot ∷ [])
 unfolding plot outline-in after-insert written-over sheet-bytes records-bytes splice insertion admitted trailer parsed inspected framed stated trailer-at plots-from surveyed judged layout-of decoded encoded signed twos traced closes placed is-on-map drawn bounds-at vertex
 sheets = refl
 
 -- and what it answers
-pub insertions : (inserting empty-sheet 19 70001 plot-start plot-sides ∷ inserting one-plot 43 513 other-start other-sides
-    ∷ inserting one-plot 43 70001 plot-start plot-sides ∷ inserting one-plot 43 513 one-number other-sides ∷ inserting one-plot 43 513 other-start seven-sides ∷ [])
-    ≡ (accepted 43 ∷ accepted 67 ∷ refused 11 ∷ refused 255 ∷ refused 255 ∷ [])
+pub insertions : (inserting empty-sheet 19 70001 plot-start plot-sides 772 ∷ inserting one-plot 45 513 other-start other-sides 12
+    ∷ inserting one-plot 45 70001 plot-start plot-sides 772 ∷ inserting one-plot 45 513 one-number other-sides 12 ∷ inserting one-plot 45 513 other-start seven-sides 12 ∷ [])
+    ≡ (accepted 45 ∷ accepted 71 ∷ refused 11 ∷ refused 255 ∷ refused 255 ∷ [])
 unfolding fitted plot outline-in inserted insertion admitted parsed inspected framed stated trailer-at plots-from surveyed judged layout-of decoded signed traced closes placed is-on-map drawn bounds-at vertex
 insertions = refl
 
 -- record 1 of two, and record 2, which there is not; and each slice of a wrong length
-pub fetches : (fetching two-plots 67 1 plot-start plot-sides ∷ fetching two-plots 67 2 plot-start plot-sides
-    ∷ fetching two-plots 67 1 one-number plot-sides ∷ fetching two-plots 67 1 plot-start seven-sides ∷ [])
+pub fetches : (fetching two-plots 71 1 plot-start plot-sides ∷ fetching two-plots 71 2 plot-start plot-sides
+    ∷ fetching two-plots 71 1 one-number plot-sides ∷ fetching two-plots 71 1 plot-start seven-sides ∷ [])
     ≡ (accepted numbered ∷ refused 13 ∷ refused 255 ∷ refused 255 ∷ [])
 unfolding fitted fetched parsed inspected framed stated trailer-at plots-from surveyed judged layout-of decoded signed traced closes placed is-on-map drawn bounds-at vertex
 fetches = refl
 
--- the same of a sheet in which two records were counted, and one in which three were, which is too short for them
-pub readings : (reading two-plots 67 2 1 plot-start plot-sides ∷ reading two-plots 67 2 2 plot-start plot-sides ∷ reading two-plots 67 3 1 plot-start plot-sides
-    ∷ reading two-plots 67 2 1 one-number plot-sides ∷ reading two-plots 67 2 1 plot-start seven-sides ∷ [])
-    ≡ (accepted numbered ∷ refused 13 ∷ refused 10 ∷ refused 255 ∷ refused 255 ∷ [])
-unfolding fitted read plots-from layout-of decoded signed
+-- the same with no check of the records, and of a length that is one byte less
+pub readings : (reading two-plots 71 1 plot-start plot-sides ∷ reading two-plots 71 2 plot-start plot-sides ∷ reading two-plots 70 1 plot-start plot-sides
+    ∷ reading two-plots 71 1 one-number plot-sides ∷ reading two-plots 71 1 plot-start seven-sides ∷ [])
+    ≡ (accepted numbered ∷ refused 13 ∷ refused 9 ∷ refused 255 ∷ refused 255 ∷ [])
+unfolding fitted read framed stated trailer-at plots-from layout-of decoded signed
 readings = refl

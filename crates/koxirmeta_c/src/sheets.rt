@@ -36,14 +36,21 @@ pub extern "C" fn kx_sheet_check(sheet: &[u8], len: usize, count: &mut u32) -> u
     give_count(sheet::check(sheet, len), count)
 }
 
-// Hands a record over, where `start` and `sides` have the right lengths: its plot number and its outline.
-fn give_record(f: Fetched, number: &mut u32, start: &mut [i32], sides: &mut [u32]) -> u32
-    ensures { λ r. ⌜ calls.Hands (calls.fitted («holds-outline» (now (start .entry)) (now (sides .entry))) («record-outcome» f)) sheets.plot-of (now (number .entry), now (start .entry), now (sides .entry)) (now (number .exit), now (start .exit), now (sides .exit)) r ⌝ }
+// Hands a record over, where `start` and `sides` have the right lengths: its plot number, its outline and its fee row.
+fn give_record(
+    f: Fetched,
+    number: &mut u32,
+    start: &mut [i32],
+    sides: &mut [u32],
+    fee_row: &mut u16,
+) -> u32
+    ensures { λ r. ⌜ calls.Hands (calls.fitted («holds-outline» (now (start .entry)) (now (sides .entry))) («record-outcome» f)) sheets.plot-of (now (number .entry), now (start .entry), now (sides .entry), now («fee_row» .entry)) (now (number .exit), now (start .exit), now (sides .exit), now («fee_row» .exit)) r ⌝ }
 {
     if (start.len() == 2) & (sides.len() == 8) {
         match f {
             Fetched::Record(r) => {
                 *number = r.number;
+                *fee_row = r.fee_row;
                 let o = r.outline;
                 put_outline(start, sides, o);
                 return ACCEPTED;
@@ -63,26 +70,27 @@ pub extern "C" fn kx_sheet_fetch(
     number: &mut u32,
     start: &mut [i32],
     sides: &mut [u32],
+    fee_row: &mut u16,
 ) -> u32
-    ensures { λ r. ⌜ calls.Hands (sheets.fetching (now (sheet .entry)) len k (now (start .entry)) (now (sides .entry))) sheets.plot-of (now (number .entry), now (start .entry), now (sides .entry)) (now (number .exit), now (start .exit), now (sides .exit)) r ⌝ }
+    ensures { λ r. ⌜ calls.Hands (sheets.fetching (now (sheet .entry)) len k (now (start .entry)) (now (sides .entry))) sheets.plot-of (now (number .entry), now (start .entry), now (sides .entry), now («fee_row» .entry)) (now (number .exit), now (start .exit), now (sides .exit), now («fee_row» .exit)) r ⌝ }
 {
-    give_record(sheet::fetch(sheet, len, k), number, start, sides)
+    give_record(sheet::fetch(sheet, len, k), number, start, sides, fee_row)
 }
 
-// Record k of a sheet in which a check has counted `count` records: what `kx_sheet_fetch` answers, with no check.
+// Record k of a sheet that was checked: what `kx_sheet_fetch` answers, with no check of the records.
 #[no_mangle]
 pub extern "C" fn kx_sheet_read(
     sheet: &[u8],
     len: usize,
-    count: u32,
     k: u32,
     number: &mut u32,
     start: &mut [i32],
     sides: &mut [u32],
+    fee_row: &mut u16,
 ) -> u32
-    ensures { λ r. ⌜ calls.Hands (sheets.reading (now (sheet .entry)) len count k (now (start .entry)) (now (sides .entry))) sheets.plot-of (now (number .entry), now (start .entry), now (sides .entry)) (now (number .exit), now (start .exit), now (sides .exit)) r ⌝ }
+    ensures { λ r. ⌜ calls.Hands (sheets.reading (now (sheet .entry)) len k (now (start .entry)) (now (sides .entry))) sheets.plot-of (now (number .entry), now (start .entry), now (sides .entry), now («fee_row» .entry)) (now (number .exit), now (start .exit), now (sides .exit), now («fee_row» .exit)) r ⌝ }
 {
-    give_record(sheet::read(sheet, len, count, k), number, start, sides)
+    give_record(sheet::read(sheet, len, k), number, start, sides, fee_row)
 }
 
 // Hands the length of a sheet over.
@@ -114,13 +122,19 @@ pub extern "C" fn kx_sheet_insert(
     number: u32,
     start: &[i32],
     sides: &[u32],
+    fee_row: u16,
     grown: &mut usize,
 ) -> u32
-    ensures { λ r. ⌜ calls.Hands (sheets.inserting (now (sheet .entry)) len number (now (start .entry)) (now (sides .entry))) (λ n. n) (now (grown .entry)) (now (grown .exit)) r × (now (sheet .exit) ≡ sheets.after-inserting (now (sheet .entry)) len number (now (start .entry)) (now (sides .entry))) ⌝ }
+    ensures { λ r. ⌜ calls.Hands (sheets.inserting (now (sheet .entry)) len number (now (start .entry)) (now (sides .entry)) «fee_row») (λ n. n) (now (grown .entry)) (now (grown .exit)) r × (now (sheet .exit) ≡ sheets.after-inserting (now (sheet .entry)) len number (now (start .entry)) (now (sides .entry)) «fee_row») ⌝ }
 {
     if (start.len() == 2) & (sides.len() == 8) {
         let outline = outline_in(start, sides);
-        return give_length(sheet::insert(sheet, len, Record { number, outline }), grown);
+        let r = Record {
+            number,
+            outline,
+            fee_row,
+        };
+        return give_length(sheet::insert(sheet, len, r), grown);
     }
     WRONG_LENGTH
 }

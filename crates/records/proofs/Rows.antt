@@ -21,6 +21,9 @@ mul-pred L (suc n) h = let e : suc n - 1 ≡ n = omega arith in rw e (omega (ari
 pub mul-split : (L n k : ℕ) → k ≤ n → L * k + L * (n - k) ≡ L * n
 mul-split L n k h = let e : k + (n - k) ≡ n = omega arith in rw (← mul-add) (ap (λ (m : ℕ). L * m) e)
 
+pub mul-within : (L k n : ℕ) → k < n → L * k + L ≤ L * n
+mul-within L k n h = omega (arith, mul-more L k, mul-split L n (k + 1) (omega arith))
+
 -- ---- records and their bytes
 
 -- the first record, and the others

@@ -1,11 +1,11 @@
 -- Listings and numbers that are computed: document 01's sheet among them. Assumes nothing.
 use mathlib.Core.Path.{_≡_, refl}
 use mathlib.Core.List.{List, [], _∷_, _++_, map}
-use Prim.Native.Nat.{ℕ}
+use Prim.Native.Nat.{ℕ, _+_}
 use lib.IntN.{pos, negsuc}
 use lib.ListN.{length}
 use Rattle.sheet.specs.declared.Record.{Record}
-use Rattle.sheet.specs.Layout.{layout, layout-of, encoded, decoded}
+use Rattle.sheet.specs.Layout.{base-layout, fee-layout, layout-of, encoded, decoded}
 use Rattle.sheet.specs.Trailer.{trailer, trailer-at}
 use Rattle.sheet.specs.Sheets.{plots-from}
 use Rattle.integers.specs.Minimum.{minℤ, halfℤ}
@@ -18,7 +18,7 @@ use Rattle.records.specs.Numbers.{signed, twos}
 use Rattle.records.specs.Rows.{joined}
 use Rattle.sheet.specs.Checking.{stated, framed, judged, surveyed, inspected, parsed}
 use Rattle.records.specs.Text.{ascii}
-use Rattle.sheet.proofs.Computed.{seven, thirteenth}
+use Rattle.sheet.proofs.Computed.{plot, seven, thirteenth}
 use Rattle.report.specs.Decimal.{decimal, signed-decimal}
 use Rattle.report.specs.Lines.{space, heading-line, row-line, last-line, refused-line}
 use Rattle.report.specs.Listing.{cell-number, row-of, full, listing}
@@ -26,33 +26,34 @@ use Rattle.report.specs.ReadBack.{divided}
 
 -- a plot whose numbers all differ, in 174 cells, and the whole map under the number v, in 32001 * 32001
 uneven : Record
-uneven = record { number = 70001; outline = record { i = negsuc 3; j = negsuc 4; n0 = 3; n1 = 1; n2 = 14; n3 = 2; n4 = 5; n5 = 4; n6 = 6; n7 = 7 } }
+uneven = plot 70001 (negsuc 3) (negsuc 4) (3 ∷ 1 ∷ 14 ∷ 2 ∷ 5 ∷ 4 ∷ 6 ∷ 7 ∷ []) 65535
 
 whole : ℕ → Record
-whole v =
-    record { number = v; outline = record { i = negsuc 15999; j = negsuc 15999; n0 = 32000; n1 = 0; n2 = 32000; n3 = 0; n4 = 32000; n5 = 0; n6 = 32000; n7 = 0 } }
+whole v = plot v (negsuc 15999) (negsuc 15999) (32000 ∷ 0 ∷ 32000 ∷ 0 ∷ 32000 ∷ 0 ∷ 32000 ∷ 0 ∷ []) (v + 8)
 
--- document 01's sheet after a heading of two bytes, the uneven plot, the whole map five times, whose cells together exceed 2 ^ 32, a sheet
--- of no plots, no bytes at all, a spoilt letter, and falling numbers
+-- document 01's sheet after a heading of two bytes, of its records and with fee rows, the uneven plot, the whole map five times, whose
+-- cells together exceed 2 ^ 32, sheets of no plots, no bytes at all, a spoilt letter, and falling numbers
 sheets : List (List ℕ)
 sheets =
-    (1 ∷ 2 ∷ encoded layout seven ++ (encoded layout thirteenth ++ trailer 24 2)) ∷ (encoded layout uneven ++ trailer 24 1) ∷
-    (joined (map (λ v. encoded layout (whole v)) (1 ∷ 2 ∷ 3 ∷ 4 ∷ 5 ∷ [])) ++ trailer 24 5) ∷
-    trailer 24 0 ∷ [] ∷ (trailer 24 0 ++ (0 ∷ [])) ∷ (encoded layout thirteenth ++ (encoded layout seven ++ trailer 24 2)) ∷ []
+    (1 ∷ 2 ∷ encoded base-layout (seven 0) ++ (encoded base-layout (thirteenth 0) ++ trailer 24 2)) ∷
+    (1 ∷ 2 ∷ encoded fee-layout (seven 12) ++ (encoded fee-layout (thirteenth 301) ++ trailer 26 2)) ∷ (encoded fee-layout uneven ++ trailer 26 1) ∷
+    (joined (map (λ v. encoded fee-layout (whole v)) (1 ∷ 2 ∷ 3 ∷ 4 ∷ 5 ∷ [])) ++ trailer 26 5) ∷
+    trailer 24 0 ∷ trailer 26 0 ∷ [] ∷ (trailer 26 0 ++ (0 ∷ [])) ∷ (encoded fee-layout (thirteenth 301) ++ (encoded fee-layout (seven 12) ++ trailer 26 2)) ∷ []
 
 texts : List (List ℕ)
 texts =
-    ascii "plot i j n0 n1 n2 n3 n4 n5 n6 n7 cells\n7 2 -1 3 0 1 0 3 0 1 0 8\n11407 0 0 0 1 0 1 0 1 0 1 5\nplots 2 cells 13\n" ∷
-    ascii "plot i j n0 n1 n2 n3 n4 n5 n6 n7 cells\n70001 -4 -5 3 1 14 2 5 4 6 7 174\nplots 1 cells 174\n" ∷
+    ascii "plot i j n0 n1 n2 n3 n4 n5 n6 n7 cells fee\n7 2 -1 3 0 1 0 3 0 1 0 8 0\n11407 0 0 0 1 0 1 0 1 0 1 5 0\nplots 2 cells 13\n" ∷
+    ascii "plot i j n0 n1 n2 n3 n4 n5 n6 n7 cells fee\n7 2 -1 3 0 1 0 3 0 1 0 8 12\n11407 0 0 0 1 0 1 0 1 0 1 5 301\nplots 2 cells 13\n" ∷
+    ascii "plot i j n0 n1 n2 n3 n4 n5 n6 n7 cells fee\n70001 -4 -5 3 1 14 2 5 4 6 7 174 65535\nplots 1 cells 174\n" ∷
     joined (
-    ascii "plot i j n0 n1 n2 n3 n4 n5 n6 n7 cells\n" ∷
-    ascii "1 -16000 -16000 32000 0 32000 0 32000 0 32000 0 1024064001\n" ∷
-    ascii "2 -16000 -16000 32000 0 32000 0 32000 0 32000 0 1024064001\n" ∷
-    ascii "3 -16000 -16000 32000 0 32000 0 32000 0 32000 0 1024064001\n" ∷
-    ascii "4 -16000 -16000 32000 0 32000 0 32000 0 32000 0 1024064001\n" ∷
-    ascii "5 -16000 -16000 32000 0 32000 0 32000 0 32000 0 1024064001\n" ∷
+    ascii "plot i j n0 n1 n2 n3 n4 n5 n6 n7 cells fee\n" ∷
+    ascii "1 -16000 -16000 32000 0 32000 0 32000 0 32000 0 1024064001 9\n" ∷
+    ascii "2 -16000 -16000 32000 0 32000 0 32000 0 32000 0 1024064001 10\n" ∷
+    ascii "3 -16000 -16000 32000 0 32000 0 32000 0 32000 0 1024064001 11\n" ∷
+    ascii "4 -16000 -16000 32000 0 32000 0 32000 0 32000 0 1024064001 12\n" ∷
+    ascii "5 -16000 -16000 32000 0 32000 0 32000 0 32000 0 1024064001 13\n" ∷
     ascii "plots 5 cells 5120320005\n" ∷ []) ∷
-    ascii "plot i j n0 n1 n2 n3 n4 n5 n6 n7 cells\nplots 0 cells 0\n" ∷ ascii "refused 8\n" ∷ ascii "refused 9\n" ∷ ascii "refused 11\n" ∷ []
+    ascii "plot i j n0 n1 n2 n3 n4 n5 n6 n7 cells fee\nplots 0 cells 0\n" ∷ ascii "plot i j n0 n1 n2 n3 n4 n5 n6 n7 cells fee\nplots 0 cells 0\n" ∷ ascii "refused 8\n" ∷ ascii "refused 9\n" ∷ ascii "refused 11\n" ∷ []
 
 listed : map (λ s. listing s (length s)) sheets ≡ texts
 unfolding sheets texts uneven whole encoded decoded layout-of trailer trailer-at plots-from parsed inspected framed stated surveyed judged twos signed traced drawn bounds-at vertex closes placed is-on-map cell-count normalised normal-form tight-even tight-odd even-bound odd-bound has-cell minℤ halfℤ area rectangle cuts triangle listing full row-of cell-number heading-line row-line last-line refused-line decimal signed-decimal

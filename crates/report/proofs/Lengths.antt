@@ -1,7 +1,7 @@
 -- No line of a listing is longer than `line-limit`, and no listing is longer than `text-limit`. Assumes nothing.
 use mathlib.Core.Path.{_≡_, refl}
 use mathlib.Core.List.{List, [], _∷_, _++_}
-use Prim.Native.Nat.{ℕ, zero, suc, _+_, _*_, _^_, _≤_, _<_}
+use Prim.Native.Nat.{ℕ, zero, suc, _+_, _-_, _*_, _^_, _≤_, _<_}
 use native.Mathlib.Omega.{arith}
 use native.Mathlib.Nat.{pow-le-pow-right}
 use lib.IntN.{ℤ, pos, negsuc, natAbs}
@@ -13,13 +13,15 @@ use Rattle.octagon.proofs.Outcomes.{refused-same, accepted-not-refused}
 use Rattle.records.specs.Numbers.{AreBytes, signed, unpacked}
 use Rattle.records.specs.Parts.{part}
 use Rattle.sheet.specs.declared.Record.{Record}
-use Rattle.sheet.specs.Layout.{record-length, layout-of, decoded}
+use Rattle.sheet.specs.Layout.{field-count, layout-of, decoded}
+use Rattle.sheet.specs.Trailer.{trailer-length, trailer-at}
 use Rattle.sheet.specs.Sheets.{plots-from, first}
 use Rattle.sheet.specs.Checking.{plots, checked}
 use Rattle.sheet.proofs.TwosComplement.{signed-fits}
 use Rattle.sheet.proofs.Layouts.{every-field, narrow-fields, within-length, decoded-at, field-below}
+use Rattle.sheet.proofs.Frames.{frame-few}
 use Rattle.sheet.proofs.Checks.{checked-plotted}
-use Rattle.sheet.specs.Cases.{Faulty, wrong-number, open-outline, off-outline, later, CheckCase, wrong-size, unmarked, misplaced, faulty, right}
+use Rattle.sheet.specs.Cases.{FrameFault, wrong-size, unmarked, misplaced, Faulty, wrong-number, open-outline, off-outline, later, CheckCase, frame-wrong, faulty, right}
 use Rattle.sheet.proofs.CheckCases.{check-case}
 use Rattle.records.specs.Text.{ascii}
 use Rattle.report.specs.Decimal.{decimal, sign, signed-decimal}
@@ -76,6 +78,7 @@ record Small (r : Record) : Type 0 where
   n5 : r .outline .n5 < 2 ^ 64
   n6 : r .outline .n6 < 2 ^ 64
   n7 : r .outline .n7 < 2 ^ 64
+  fee : r .«fee_row» < 2 ^ 64
 
 start-small : (w v : ℕ) → w ≤ 4 → v < 256 ^ w → natAbs (signed w v) < 2 ^ 63
 start-small w v n h = near (signed w v) (signed-fits w v n h)
@@ -87,8 +90,8 @@ start-small w v n h = near (signed w v) (signed-fits w v n h)
 small : (L : ℕ) (s : List ℕ) (at : ℕ) → AreBytes s → Small (decoded (layout-of L) (part s at L))
 small L s at b =
     let ws = layout-of L in
-    let below : (k : ℕ) → k < 11 → getD (unpacked ws (drop at s)) k 0 < 256 ^ getD ws k 0 = λ k h. field-below ws s at k b (omega (arith, every-field L)) in
-    let most : (k : ℕ) → k < 11 → getD (unpacked ws (drop at s)) k 0 < 2 ^ 64 =
+    let below : (k : ℕ) → k < field-count → getD (unpacked ws (drop at s)) k 0 < 256 ^ getD ws k 0 = λ k h. field-below ws s at k b (omega (arith, every-field L)) in
+    let most : (k : ℕ) → k < field-count → getD (unpacked ws (drop at s)) k 0 < 2 ^ 64 =
     λ k h. omega (arith, below k h, pow-le-pow-right {n = 256} (omega arith) {i = getD ws k 0} {j = 4} (narrow-fields L k)) in
     rw (decoded-at ws s at L (within-length L)) record {
       number = most 0 (omega arith);
@@ -102,6 +105,7 @@ small L s at b =
       n5 = most 8 (omega arith);
       n6 = most 9 (omega arith);
       n7 = most 10 (omega arith);
+      fee = most 11 (omega arith);
     }
 
 row-length : (r : Record) → Small r → length (row-of r) ≤ line-limit
@@ -112,7 +116,7 @@ row-length r h =
     (integers (o .i) (h .i) (integers (o .j) (h .j)
     (numbers (o .n0) (h .n0) (numbers (o .n1) (h .n1) (numbers (o .n2) (h .n2) (numbers (o .n3) (h .n3)
     (numbers (o .n4) (h .n4) (numbers (o .n5) (h .n5) (numbers (o .n6) (h .n6) (numbers (o .n7) (h .n7)
-    (numbers (cell-number o) (omega (arith, cells-most o)) none)))))))))))
+    (numbers (cell-number o) (omega (arith, cells-most o)) (numbers (r .«fee_row») (h .fee) none))))))))))))
 
 rows-length : (L : ℕ) (s : List ℕ) (at n : ℕ) → AreBytes s → length (rows-of (plots-from L s at n)) ≤ line-limit * n
 unfolding plots-from
@@ -139,10 +143,13 @@ fault-small (open-outline h f) = omega arith
 fault-small (off-outline h k f) = omega arith
 fault-small (later h t f) = fault-small f
 
+frame-fault-small : {s : List ℕ} {len e : ℕ} → FrameFault s len e → e ≤ 11
+frame-fault-small (wrong-size h) = omega arith
+frame-fault-small (unmarked l h) = omega arith
+frame-fault-small (misplaced l m h) = omega arith
+
 refusal-small : {s : List ℕ} {len : ℕ} {o : Outcome ℕ} (e : ℕ) → CheckCase s len o → o ≡ refused e → e ≤ 11
-refusal-small e (wrong-size h) q = omega (arith, refused-same q)
-refusal-small e (unmarked z h) q = omega (arith, refused-same q)
-refusal-small e (misplaced z m h) q = omega (arith, refused-same q)
+refusal-small e (frame-wrong h) q = omega (arith, refused-same q, frame-fault-small h)
 refusal-small e (faulty f h) q = omega (arith, refused-same q, fault-small h)
 refusal-small e (right f g) q = absurd (accepted-not-refused q)
 
@@ -150,10 +157,12 @@ full-length : (s : List ℕ) (len c : ℕ) → AreBytes s → checked s len ≡ 
 unfolding full heading-line
 full-length s len c b e =
     let p = checked-plotted s len c e in
-    let k = p .holds in
+    let k = frame-few s len c (p .frame) in
     let n = p .many in
     let rs = plots s len in
-    let r : length (rows-of rs) ≤ line-limit * c = rw (p .are) (rows-length record-length s (first len (record-length * c)) c b) in
+    let z = trailer-at s (len - trailer-length) in
+    let r : length (rows-of rs) ≤ line-limit * c =
+    rw (p .are, ← p .frame .count) (rows-length (z .length) s (first len (z .distance)) (z .count) b) in
     omega (
       arith,
       length-append heading-line (rows-of rs ++ last-line (length rs) (total-cells rs)),

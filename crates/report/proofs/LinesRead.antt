@@ -10,7 +10,7 @@ use Rattle.sheet.specs.declared.Record.{Record}
 use Rattle.report.specs.Decimal.{digit, AllDigits, none, more, minus, signed-decimal}
 use Rattle.report.specs.Lines.{space, row-line, last-line, refused-line}
 use Rattle.report.specs.ReadBack.{divided, word-of, IsNumber, nought, positive, negative, column-names, PlotRow, LastLine}
-use Rattle.report.specs.ReadBack.{Column, plot-number, plot-i, plot-j, plot-n0, plot-n1, plot-n2, plot-n3, plot-n4, plot-n5, plot-n6, plot-n7, plot-cells}
+use Rattle.report.specs.ReadBack.{Column, plot-number, plot-i, plot-j, plot-n0, plot-n1, plot-n2, plot-n3, plot-n4, plot-n5, plot-n6, plot-n7, plot-cells, plot-fee}
 use Rattle.report.proofs.Decimals.{decimal-digits, decimal-nought, decimal-leads, integer-signed-decimal}
 use Rattle.report.proofs.Divisions.{tested-above, no-word, word, signed-decimal-word, integer-words, Lined, lined}
 
@@ -40,7 +40,7 @@ row-integers r n =
     let o = r .outline in
     pos (r .number) ∷ o .i ∷ o .j
     ∷ pos (o .n0) ∷ pos (o .n1) ∷ pos (o .n2) ∷ pos (o .n3) ∷ pos (o .n4) ∷ pos (o .n5) ∷ pos (o .n6) ∷ pos (o .n7)
-    ∷ pos n ∷ []
+    ∷ pos n ∷ pos (r .«fee_row») ∷ []
 
 pub row-lined : (r : Record) (n : ℕ) → Lined (row-line r n) (map signed-decimal (row-integers r n))
 unfolding row-line signed-decimal
@@ -61,9 +61,9 @@ unfolding divided column-names
 row-under r n =
     column plot-number (column plot-i (column plot-j
     (column plot-n0 (column plot-n1 (column plot-n2 (column plot-n3 (column plot-n4 (column plot-n5 (column plot-n6 (column plot-n7
-    (column plot-cells no-column)))))))))))
+    (column plot-cells (column plot-fee no-column))))))))))))
 
-row-word : (r : Record) (n m : ℕ) → m < 12 → word-of (row-lined r n .unended) m ≡ signed-decimal (getD (row-integers r n) m (pos 0))
+row-word : (r : Record) (n m : ℕ) → m < 13 → word-of (row-lined r n .unended) m ≡ signed-decimal (getD (row-integers r n) m (pos 0))
 row-word r n m h = rw (row-lined r n .words) (map-at signed-decimal (row-integers r n) m (pos 0) h)
 
 pub row-read : (r : Record) (n : ℕ) → PlotRow r n (row-lined r n .unended)

@@ -45,7 +45,7 @@ numbers-end {t = t} {m = m} vs k h l = l .rest (rw (words-end vs k h) (put-byte 
 
 -- the numbers of a row after its start
 abbrev pub row-numbers : Record → ℕ → List ℕ
-row-numbers r n = let o = r .outline in o .n0 ∷ o .n1 ∷ o .n2 ∷ o .n3 ∷ o .n4 ∷ o .n5 ∷ o .n6 ∷ o .n7 ∷ n ∷ []
+row-numbers r n = let o = r .outline in o .n0 ∷ o .n1 ∷ o .n2 ∷ o .n3 ∷ o .n4 ∷ o .n5 ∷ o .n6 ∷ o .n7 ∷ n ∷ r .«fee_row» ∷ []
 
 pub row-parts : (r : Record) (n : ℕ) → row-line r n ≡ row-start (r .number) (r .outline .i) (r .outline .j) ++ words (row-numbers r n) 0
 unfolding row-line row-start

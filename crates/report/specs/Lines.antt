@@ -1,4 +1,4 @@
--- The lines of a listing, as document 01 shows them, and a part of a buffer that is written. Assumes nothing.
+-- The lines of a listing, as documents 01 and 02 (U2) show them, and a part of a buffer that is written. Assumes nothing.
 use mathlib.Core.Path.{_≡_}
 use mathlib.Core.List.{List, [], _∷_, _++_}
 use Prim.Native.Nat.{ℕ, _+_, _≤_}
@@ -27,7 +27,7 @@ abbrev pub line : List ℕ → List (List ℕ) → List ℕ
 line w ws = w ++ spaced ws
 
 unfoldable pub heading-line : List ℕ
-heading-line = ascii "plot i j n0 n1 n2 n3 n4 n5 n6 n7 cells\n"
+heading-line = ascii "plot i j n0 n1 n2 n3 n4 n5 n6 n7 cells fee\n"
 
 -- how a row begins: the plot number and the start
 unfoldable pub row-start : ℕ → ℤ → ℤ → List ℕ
@@ -40,7 +40,7 @@ row-line r n =
     line (decimal (r .number))
     (signed-decimal (o .i) ∷ signed-decimal (o .j)
     ∷ decimal (o .n0) ∷ decimal (o .n1) ∷ decimal (o .n2) ∷ decimal (o .n3) ∷ decimal (o .n4) ∷ decimal (o .n5) ∷ decimal (o .n6) ∷ decimal (o .n7)
-    ∷ decimal n ∷ [])
+    ∷ decimal n ∷ decimal (r .«fee_row») ∷ [])
 
 -- the last line of a listing of c plots, which have n cells together
 unfoldable pub last-line : ℕ → ℕ → List ℕ

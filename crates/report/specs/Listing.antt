@@ -8,7 +8,7 @@ use Rattle.outline.specs.declared.Outline.{Outline}
 use Rattle.outline.specs.Tracing.{traced}
 use Rattle.records.specs.Rows.{joined}
 use Rattle.sheet.specs.declared.Record.{Record}
-use Rattle.sheet.specs.Layout.{record-length}
+use Rattle.sheet.specs.Layout.{base-length}
 use Rattle.sheet.specs.Trailer.{trailer-length}
 use Rattle.sheet.specs.Sheets.{sheet-limit, Sheet}
 use Rattle.sheet.specs.Checking.{parsed}
@@ -50,9 +50,10 @@ listing s len = text-of (parsed s len)
 
 -- ---- how long a listing can be
 
--- no line is longer than twelve words of twenty bytes, each with a byte after it, and so no listing is longer than this
+-- no line is longer than thirteen words of twenty bytes, each with a byte after it, and no record is shorter than document 01's; so no
+-- listing is longer than this
 abbrev pub line-limit : ℕ
-line-limit = 12 * 21
+line-limit = 13 * 21
 
 abbrev pub text-limit : ℕ
-text-limit = line-limit * ((sheet-limit - trailer-length) / record-length + 2)
+text-limit = line-limit * ((sheet-limit - trailer-length) / base-length + 2)

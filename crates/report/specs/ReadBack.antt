@@ -47,9 +47,9 @@ pub data IsNumber : List ℕ → Type 0 where
 
 -- ---- the rows
 
--- the first line, as document 01 shows it
+-- the first line, as document 01 shows it, with U2's "last column headed `fee`"
 unfoldable pub column-names : List ℕ
-column-names = ascii "plot i j n0 n1 n2 n3 n4 n5 n6 n7 cells"
+column-names = ascii "plot i j n0 n1 n2 n3 n4 n5 n6 n7 cells fee"
 
 -- the number that a column of this name has for the plot r of n cells
 pub data Column (r : Record) (n : ℕ) : List ℕ → ℤ → Type 0 where
@@ -65,12 +65,13 @@ pub data Column (r : Record) (n : ℕ) : List ℕ → ℤ → Type 0 where
   plot-n6 : Column r n (ascii "n6") (pos (r .outline .n6))
   plot-n7 : Column r n (ascii "n7") (pos (r .outline .n7))
   plot-cells : Column r n (ascii "cells") (pos n)
+  plot-fee : Column r n (ascii "fee") (pos (r .«fee_row»))
 
 -- the line b is the row of the plot r of n cells: word m, read as a number, is the one that the name of column m asks for
 pub record PlotRow (r : Record) (n : ℕ) (b : List ℕ) : Type 0 where
-  pub word-count : length (divided 32 b) ≡ 12
-  pub columns : (m : ℕ) → m < 12 → Column r n (word-of column-names m) (integer (word-of b m))
-  pub numbers : (m : ℕ) → m < 12 → IsNumber (word-of b m)
+  pub word-count : length (divided 32 b) ≡ 13
+  pub columns : (m : ℕ) → m < 13 → Column r n (word-of column-names m) (integer (word-of b m))
+  pub numbers : (m : ℕ) → m < 13 → IsNumber (word-of b m)
 
 -- the outline o is accepted, and n is the number of cells inside it
 pub record CountedOutline (o : Outline) (n : ℕ) : Type 0 where

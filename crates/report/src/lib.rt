@@ -14,9 +14,9 @@ mod rows;
 mod words;
 
 // No line is longer than this, in bytes, and no listing is longer than TEXT: a line for each record that a sheet can hold, and two.
-pub const LINE: usize = 252;
+pub const LINE: usize = 273;
 
-pub const TEXT: usize = LINE * ((sheet::LIMIT - sheet::TRAILER) / sheet::RECORD + 2);
+pub const TEXT: usize = LINE * ((sheet::LIMIT - sheet::TRAILER) / sheet::BASE_RECORD + 2);
 
 // Puts the listing of the sheet in the first `len` bytes at the start of `text`, and answers its length.
 pub fn list(sheet: &[u8], len: usize, text: &mut [u8; TEXT]) -> usize

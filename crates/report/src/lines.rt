@@ -13,7 +13,7 @@ pub fn put_heading(text: &mut [u8], at: usize) -> usize
     requires { ⌜ at + length «heading-line» ≤ length (now text) ⌝ }
     ensures { λ r. ⌜ Put (now (text .entry)) at «heading-line» (now (text .exit)) r ⌝ }
 {
-    put_word(text, at, b"plot i j n0 n1 n2 n3 n4 n5 n6 n7 cells\n")
+    put_word(text, at, b"plot i j n0 n1 n2 n3 n4 n5 n6 n7 cells fee\n")
 }
 
 // The plot number and the start of a row.
@@ -32,9 +32,10 @@ pub fn put_row(text: &mut [u8], at: usize, r: Record, cells: u32) -> usize
     ensures { λ a. ⌜ Put (now (text .entry)) at («row-line» r cells) (now (text .exit)) a ⌝ }
 {
     let o = r.outline;
-    let sides = [o.n0, o.n1, o.n2, o.n3, o.n4, o.n5, o.n6, o.n7, cells];
+    let fee = r.fee_row as u32;
+    let numbers = [o.n0, o.n1, o.n2, o.n3, o.n4, o.n5, o.n6, o.n7, cells, fee];
     let next = put_start(text, at, r.number, o.i, o.j);
-    put_numbers(text, next, &sides)
+    put_numbers(text, next, &numbers)
 }
 
 // The last line: how many plots there are, and how many cells they have together.

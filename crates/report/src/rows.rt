@@ -44,7 +44,7 @@ fn put_rows(sheet: &[u8], len: usize, c: u32, text: &mut [u8], at: usize) -> Row
     let mut sum: u64 = 0;
     let mut k = 0;
     while k < c {
-        let Fetched::Record(r) = sheet::read(sheet, len, c, k) else {
+        let Fetched::Record(r) = sheet::read(sheet, len, k) else {
             return Rows { next, cells: sum };
         };
         let n = cells(r.outline);

@@ -1,11 +1,11 @@
 -- Check a sheet: each answer is given exactly where its case of specs/Cases.antt holds (`check-exactly`). Assumes nothing.
-use mathlib.Core.Path.{_≡_, refl, sym, ap, _∙_}
+use mathlib.Core.Path.{_≡_, refl, ap, _∙_}
 use mathlib.Core.Logic.{_↔_}
 use mathlib.Core.List.{List, [], _∷_}
 use Prim.Native.Nat.{ℕ, _-_, _<_}
 use lib.Dec.{ltb}
 use borrow.Author.Tests.{ltb-true, ltb-false, le-ltb, lt-ltb}
-use Rattle.integers.proofs.Tests.{cases, true-is-not-false}
+use Rattle.integers.proofs.Tests.{cases}
 use Rattle.octagon.specs.declared.Octagon.{Octagon}
 use Rattle.octagon.specs.Outcome.{Outcome, accepted, refused, then}
 use Rattle.outline.specs.Tracing.{traced}
@@ -14,11 +14,11 @@ use Rattle.sheet.specs.declared.Record.{Record}
 use Rattle.sheet.specs.declared.trailer.Trailer.{Trailer}
 use Rattle.sheet.specs.Trailer.{trailer-length, trailer-at}
 use Rattle.sheet.specs.Order.{Ascending, last, next}
-use Rattle.sheet.specs.Checking.{is-bad-length, has-bad-marks, is-bad-distance, judged, surveyed, inspected, checked}
-use Rattle.sheet.specs.Cases.{GoodFrame, stated-plots, HasOctagon, Faulty, wrong-number, open-outline, off-outline, later, CheckCase, wrong-size, unmarked, misplaced, faulty, right}
-use Rattle.sheet.proofs.Frames.{good-length, passes-length, good-marks, passes-marks, good-distance, passes-distance, framed-when}
+use Rattle.sheet.specs.Checking.{framed, judged, surveyed, inspected, checked}
+use Rattle.sheet.specs.Cases.{GoodFrame, stated-plots, HasOctagon, Faulty, wrong-number, open-outline, off-outline, later, CheckCase, frame-wrong, faulty, right}
+use Rattle.sheet.proofs.Frames.{framed-when, framed-refused, FrameCase, is-good, is-faulty, frame-case}
 use Rattle.sheet.proofs.Surveys.{judged-when, surveyed-when}
-use Rattle.sheet.proofs.Checks.{length-refused, marks-refused, distance-refused, inspected-records, parsed-refused, checked-refused, checked-trailer}
+use Rattle.sheet.proofs.Checks.{inspected-frame, inspected-records, parsed-refused, checked-refused, checked-trailer}
 
 -- ---- the records
 
@@ -61,31 +61,21 @@ module _ (s : List ℕ) (len : ℕ) where
 
   -- one of them holds of any buffer and any length
   pub check-case : CheckCase s len (checked s len)
-  check-case =
-      let z = trailer-at s (len - trailer-length) in
-      cases (is-bad-length s len)
-      (λ a. rw (refuses (length-refused s len a)) (wrong-size (λ h. true-is-not-false (sym a ∙ passes-length s len h))))
-      (λ a. cases (has-bad-marks z)
-      (λ b. rw (refuses (marks-refused s len a b)) (unmarked (good-length s len a) (λ h. true-is-not-false (sym b ∙ passes-marks z h))))
-      (λ b. cases (is-bad-distance len z)
-      (λ d. rw (refuses (distance-refused s len a b d)) (misplaced (good-length s len a) (good-marks z b) (λ h. true-is-not-false (sym d ∙ passes-distance len z h))))
-      (λ d. let f : GoodFrame s len (z .count) = record { size = good-length s len a; marks = good-marks z b; distance = good-distance len z d; count = refl } in
-      on f (inspected-records s len (framed-when s len (z .count) f)) (survey-case z 0 (stated-plots s len)))))
+  check-case = go (frame-case s len) refl
     where
       on : {c : ℕ} {t : Outcome Trailer} → GoodFrame s len c → inspected s len ≡ t → SurveyCase (trailer-at s (len - trailer-length)) 0 (stated-plots s len) t → CheckCase s len (checked s len)
       on f q (all-good g) = rw (checked-trailer s len q) (right (record { size = f .size; marks = f .marks; distance = f .distance; count = refl }) g)
       on f q (one-faulty h) = rw (refuses q) (faulty f h)
+
+      go : {t : Outcome Trailer} → FrameCase s len t → framed s len ≡ t → CheckCase s len (checked s len)
+      go (is-faulty h) q = rw (refuses (inspected-frame s len q)) (frame-wrong h)
+      go (is-good f) q = on f (inspected-records s len q) (survey-case _ 0 (stated-plots s len))
 
   -- and each answer is given exactly where its case holds
   pub check-exactly : (o : Outcome ℕ) → (checked s len ≡ o) ↔ CheckCase s len o
   check-exactly o = (λ e. rw e at check-case, given)
     where
       given : {o : Outcome ℕ} → CheckCase s len o → checked s len ≡ o
-      given (wrong-size h) =
-          refuses (cases (is-bad-length s len) (length-refused s len) (λ a. absurd (h (good-length s len a))))
-      given (unmarked z h) =
-          refuses (cases (has-bad-marks (trailer-at s (len - trailer-length))) (marks-refused s len (passes-length s len z)) (λ a. absurd (h (good-marks _ a))))
-      given (misplaced z m h) =
-          refuses (cases (is-bad-distance len (trailer-at s (len - trailer-length))) (distance-refused s len (passes-length s len z) (passes-marks _ m)) (λ a. absurd (h (good-distance len _ a))))
+      given (frame-wrong h) = refuses (inspected-frame s len (framed-refused s len h))
       given (faulty {c = c} f h) = refuses (inspected-records s len (framed-when s len c f) ∙ surveyed-faulty _ h)
       given (right {c = c} f g) = checked-trailer s len (inspected-records s len (framed-when s len c f) ∙ surveyed-when _ g) ∙ ap accepted (f .count)

@@ -1,19 +1,16 @@
 -- The check of a sheet from its frame and its records, what the sheet then says, and what `fetch` answers of it. Assumes nothing.
 use mathlib.Core.Path.{_≡_, sym, ap, _∙_}
-use mathlib.Core.Bool.{true, false}
 use mathlib.Core.List.{List}
-use Prim.Native.Nat.{ℕ, _-_, _*_}
+use Prim.Native.Nat.{ℕ, _-_}
 use lib.ListN.{length}
 use Rattle.octagon.specs.Outcome.{accepted, refused}
 use Rattle.octagon.proofs.Outcomes.{then-accepted, map-accepted}
 use Rattle.sheet.specs.declared.Record.{Record}
 use Rattle.sheet.specs.declared.trailer.Trailer.{Trailer}
-use Rattle.sheet.specs.Answers.{bad-length, bad-trailer, bad-distance}
-use Rattle.sheet.specs.Layout.{record-length}
 use Rattle.sheet.specs.Trailer.{trailer-length, trailer-at}
 use Rattle.sheet.specs.Order.{nth, Ascending}
-use Rattle.sheet.specs.Sheets.{Sheet, plots-from, first, sheet-of}
-use Rattle.sheet.specs.Checking.{is-bad-length, has-bad-marks, is-bad-distance, stated, framed, surveyed, inspected, parsed, plots, checked, fetched, HoldsRecords}
+use Rattle.sheet.specs.Sheets.{Sheet, first, sheet-of}
+use Rattle.sheet.specs.Checking.{framed, surveyed, inspected, parsed, plots, checked, fetched}
 use Rattle.sheet.specs.Cases.{GoodFrame, stated-plots, HasOctagon}
 use Rattle.sheet.proofs.Plots.{length-plots}
 use Rattle.sheet.proofs.Frames.{Framing, framing, framed-good, framed-when}
@@ -28,21 +25,6 @@ inspected-frame s len e = rw e
 pub inspected-records : {z : Trailer} (s : List ℕ) (len : ℕ) → framed s len ≡ accepted z → inspected s len ≡ surveyed z 0 (sheet-of s len z .plots)
 unfolding inspected
 inspected-records s len e = rw e
-
--- the refusals of the frame, from its tests
-module _ (s : List ℕ) (len : ℕ) where
-  pub length-refused : is-bad-length s len ≡ true → inspected s len ≡ refused bad-length
-  unfolding framed
-  length-refused a = inspected-frame s len (rw a)
-
-  pub marks-refused : is-bad-length s len ≡ false → has-bad-marks (trailer-at s (len - trailer-length)) ≡ true → inspected s len ≡ refused bad-trailer
-  unfolding framed stated
-  marks-refused a b = inspected-frame s len (rw (a, b))
-
-  pub distance-refused : is-bad-length s len ≡ false → has-bad-marks (trailer-at s (len - trailer-length)) ≡ false
-      → is-bad-distance len (trailer-at s (len - trailer-length)) ≡ true → inspected s len ≡ refused bad-distance
-  unfolding framed stated
-  distance-refused a b d = inspected-frame s len (rw (a, b, d))
 
 -- ---- a sheet that is right
 
@@ -61,10 +43,6 @@ inspected-good s len z e =
     let f : framed s len ≡ accepted z = t .first ∙ ap accepted (sym (p .1)) in
     let g = framed-good s len z f in
     record { is-trailer = g .1; good-frame = g .0; framing = framing s len z f; ascending = rw (← p .1) at (p .0) }
-
--- its records are document 01's, before the trailer
-pub known-plots : (s : List ℕ) (len c : ℕ) (z : Trailer) → Good s len z → z .count ≡ c → sheet-of s len z .plots ≡ plots-from record-length s (first len (record-length * c)) c
-known-plots s len c z g e = rw (g .framing .known, g .framing .distance-is, e)
 
 pub inspected-when : (s : List ℕ) (len c : ℕ) → GoodFrame s len c → Ascending HasOctagon 0 (stated-plots s len) → inspected s len ≡ accepted (trailer-at s (len - trailer-length))
 inspected-when s len c f g = inspected-records s len (framed-when s len c f) ∙ surveyed-when _ g
@@ -132,9 +110,9 @@ parsed-plots s len q = rw q
 -- those of a sheet in which a check counts c
 pub record Plotted (s : List ℕ) (len c : ℕ) : Type 0 where
   pub many : length (plots s len) ≡ c
-  pub are : plots s len ≡ plots-from record-length s (first len (record-length * c)) c
+  pub are : plots s len ≡ stated-plots s len
+  pub frame : GoodFrame s len c
   pub ascending : Ascending HasOctagon 0 (plots s len)
-  pub holds : HoldsRecords s len (record-length * c)
   pub fetch : (k : ℕ) → fetched s len k ≡ nth (plots s len) k
 
 pub checked-plotted : (s : List ℕ) (len c : ℕ) → checked s len ≡ accepted c → Plotted s len c
@@ -144,11 +122,10 @@ checked-plotted s len c e =
     let g = inspected-good s len z (d .is-inspected) in
     let p = parsed-sheet s len (d .is-inspected) in
     let q = parsed-plots s len p in
-    let k = q ∙ known-plots s len c z g (d .count-is) in
     record {
-      many = ap length k ∙ length-plots record-length s (first len (record-length * c)) c;
-      are = k;
+      many = ap length q ∙ length-plots (z .length) s (first len (z .distance)) (z .count) ∙ d .count-is;
+      are = q ∙ ap (λ (t : Trailer). sheet-of s len t .plots) (g .is-trailer);
+      frame = rw (d .count-is) at (g .good-frame);
       ascending = rw q (g .ascending);
-      holds = rw (g .framing .distance-is, d .count-is) at (g .framing .holds);
       fetch = λ k. fetched-plot s len k p ∙ ap (λ (rs : List Record). nth rs k) (sym q);
     }

@@ -2,8 +2,7 @@
 use mathlib.Core.Path.{_≡_, refl, sym, ap, _∙_}
 use mathlib.Core.Logic.{_↔_}
 use mathlib.Core.List.{List}
-use Prim.Native.Nat.{ℕ, _*_, _≤_}
-use native.Mathlib.Omega.{arith}
+use Prim.Native.Nat.{ℕ, _≤_}
 use lib.Dec.{ltb}
 use borrow.Author.Tests.{ltb-true, ltb-false}
 use Rattle.integers.proofs.Tests.{cases}
@@ -11,24 +10,21 @@ use Rattle.octagon.specs.Outcome.{Outcome, accepted, refused}
 use Rattle.octagon.proofs.Outcomes.{refused-same, accepted-not-refused}
 use Rattle.sheet.specs.declared.Record.{Record}
 use Rattle.sheet.specs.Answers.{no-record}
-use Rattle.sheet.specs.Layout.{record-length}
 use Rattle.sheet.specs.Order.{nth}
-use Rattle.sheet.specs.Sheets.{Sheet, plots-from, first}
+use Rattle.sheet.specs.Sheets.{Sheet}
 use Rattle.sheet.specs.Checking.{parsed, checked, fetched}
-use Rattle.sheet.specs.Cases.{FetchCase, not-checked, past-count, fetches}
-use Rattle.sheet.proofs.RecordFields.{row-read, row-only}
-use Rattle.sheet.proofs.Order.{plot-past}
-use Rattle.sheet.proofs.Plots.{length-plots}
+use Rattle.sheet.specs.Cases.{stated-plots, FetchCase, not-checked, past-count, fetches}
+use Rattle.sheet.proofs.RecordFields.{row-none, row-read, row-only}
 use Rattle.sheet.proofs.Checks.{checked-refused, checked-count, checked-plotted, fetched-refused}
 use Rattle.sheet.proofs.CheckCases.{check-exactly}
 
 module _ (s : List ℕ) (len k : ℕ) where
   -- of a sheet that checks, `fetch` answers the record at its place
-  pub fetched-known : (c : ℕ) → checked s len ≡ accepted c → fetched s len k ≡ nth (plots-from record-length s (first len (record-length * c)) c) k
+  pub fetched-known : (c : ℕ) → checked s len ≡ accepted c → fetched s len k ≡ nth (stated-plots s len) k
   fetched-known c e = let p = checked-plotted s len c e in p .fetch k ∙ ap (λ (rs : List Record). nth rs k) (p .are)
 
   pub fetched-none : (c : ℕ) → checked s len ≡ accepted c → c ≤ k → fetched s len k ≡ refused no-record
-  fetched-none c e h = fetched-known c e ∙ plot-past (plots-from record-length s (first len (record-length * c)) c) k (omega (arith, length-plots record-length s (first len (record-length * c)) c))
+  fetched-none c e h = fetched-known c e ∙ row-none s len c k (checked-plotted s len c e .frame) h
 
   -- and of any other what the check does
   pub not-fetched : (n : ℕ) → checked s len ≡ refused n → fetched s len k ≡ refused n
@@ -46,7 +42,7 @@ module _ (s : List ℕ) (len k : ℕ) where
       go (accepted c) e =
           let g = check-exactly s len (accepted c) .0 e in
           cases (ltb k c)
-          (λ b. let h = ltb-true k c b in let r = row-read s len c k h in rw (fetched-known c e ∙ r .1) (fetches g h (r .2)))
+          (λ b. let h = ltb-true k c b in let r = row-read s len c k (checked-plotted s len c e .frame) h in rw (fetched-known c e ∙ r .1) (fetches g h (r .2)))
           (λ b. let h = ltb-false k c b in rw (fetched-none c e h) (past-count g h))
 
   pub fetch-exactly : (o : Outcome Record) → (fetched s len k ≡ o) ↔ FetchCase s len k o
@@ -55,4 +51,5 @@ module _ (s : List ℕ) (len k : ℕ) where
       given : {o : Outcome Record} → FetchCase s len k o → fetched s len k ≡ o
       given (not-checked {e = n} g) = not-fetched n (check-exactly s len (refused n) .1 g)
       given (past-count {c = c} g h) = fetched-none c (check-exactly s len (accepted c) .1 g) h
-      given (fetches {c = c} {r = r} g h f) = fetched-known c (check-exactly s len (accepted c) .1 g) ∙ row-only s len c k h r f
+      given (fetches {c = c} {r = r} g h f) =
+          let e = check-exactly s len (accepted c) .1 g in fetched-known c e ∙ row-only s len c k (checked-plotted s len c e .frame) h r f

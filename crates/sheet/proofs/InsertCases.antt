@@ -3,7 +3,7 @@ use mathlib.Core.Path.{_≡_, refl, sym, ap, _∙_}
 use mathlib.Core.Bool.{Bool, true, false, _||_}
 use mathlib.Core.Logic.{_↔_, _⊎_, inl, inr}
 use mathlib.Core.List.{List}
-use Prim.Native.Nat.{ℕ, _+_, _<_}
+use Prim.Native.Nat.{ℕ, _<_}
 use native.Mathlib.Omega.{arith}
 use lib.ListN.{length}
 use lib.Dec.{ltb, eqb}
@@ -23,12 +23,12 @@ use Rattle.sheet.specs.Order.{Present, present}
 use Rattle.sheet.specs.Sheets.{sheet-limit, Sheet, sheet-of, sheet-length}
 use Rattle.sheet.specs.Checking.{parsed, checked}
 use Rattle.sheet.specs.Cases.{stated-plots}
-use Rattle.sheet.specs.Writing.{written-length, with-plot, is-bad-number, has-no-room, admitted, inserted}
+use Rattle.sheet.specs.Writing.{written-length, with-plot, is-bad-number, has-no-room, admitted, inserted, grown-length}
 use Rattle.sheet.specs.WritingCases.{GoodOutline, GoodSheet, InsertCase, plot-open, plot-off, sheet-refused, number-bad, sheet-full, inserts}
 use Rattle.sheet.proofs.Order.{present-test, absent-test}
 use Rattle.sheet.proofs.Checks.{inspected-good, parsed-sheet, checked-refused, checked-count, checked-counted}
 use Rattle.sheet.proofs.CheckCases.{check-exactly}
-use Rattle.sheet.proofs.Inserts.{admit-number, admit-room, admit-good, longer, insert-outline, insert-sheet}
+use Rattle.sheet.proofs.Inserts.{admit-number, admit-room, admit-good, next-length-stated, insert-outline, insert-sheet}
 
 -- ---- the tests
 
@@ -80,12 +80,16 @@ module _ (s : List ℕ) (len : ℕ) (r : Record) where
 
   -- a sheet that checks with c records: those that its trailer states, and the length with one more
   module _ {c : ℕ} (g : GoodOutline (r .outline)) (e : checked s len ≡ accepted c) where
-    says : (z : Sheet) × (parsed s len ≡ accepted z) × (z .plots ≡ stated-plots s len) × (sheet-length record-length (with-plot r z) ≡ len + record-length)
+    says : (z : Sheet) × (parsed s len ≡ accepted z) × (z .plots ≡ stated-plots s len) × (sheet-length record-length (with-plot r z) ≡ grown-length s len c)
     says =
         let d = checked-counted s len c e in
         let z = d .trailer in
-        let f = inspected-good s len z (d .is-inspected) in
-        (sheet-of s len z, parsed-sheet s len (d .is-inspected), ap (λ (t : Trailer). sheet-of s len t .plots) (f .is-trailer), longer s len z r f)
+        let f = inspected-good s len z (d .is-inspected) in (
+          sheet-of s len z,
+          parsed-sheet s len (d .is-inspected),
+          ap (λ (t : Trailer). sheet-of s len t .plots) (f .is-trailer),
+          next-length-stated s len z r f ∙ ap (grown-length s len) (d .count-is),
+        )
 
     by-record : {t : Outcome Sheet} → admitted s r (says .0) ≡ t → inserted s len r ≡ then t (λ z. accepted (written-length z))
     by-record {t} q = by-sheet g {t = t} (rw (says .1) q)
@@ -94,10 +98,10 @@ module _ (s : List ℕ) (len : ℕ) (r : Record) where
     from-number t = by-record (admit-number s r (says .0) (rw (says .2) t))
 
     module _ (t : is-bad-number (r .number) (stated-plots s len) ≡ false) where
-      from-room : has-no-room s (len + record-length) ≡ true → inserted s len r ≡ refused no-room
+      from-room : has-no-room s (grown-length s len c) ≡ true → inserted s len r ≡ refused no-room
       from-room u = by-record (admit-room s r (says .0) (rw (says .2) t) (rw (says .3) u))
 
-      from-good : has-no-room s (len + record-length) ≡ false → inserted s len r ≡ accepted (len + record-length)
+      from-good : has-no-room s (grown-length s len c) ≡ false → inserted s len r ≡ accepted (grown-length s len c)
       from-good u = by-record (admit-good s r (says .0) (rw (says .2) t) (rw (says .3) u)) ∙ ap accepted (says .3)
 
   sheet-case : GoodOutline (r .outline) → (t : Outcome ℕ) → checked s len ≡ t → InsertCase s len r (inserted s len r)
@@ -106,9 +110,9 @@ module _ (s : List ℕ) (len : ℕ) (r : Record) where
       let h : GoodSheet s len r c = record { outline = g; sheet = check-exactly s len (accepted c) .0 e } in
       cases (is-bad-number (r .number) (stated-plots s len))
       (λ t. rw (from-number g e t) (number-bad h (number-told (r .number) (stated-plots s len) t)))
-      (λ t. cases (has-no-room s (len + record-length))
-      (λ u. rw (from-room g e t u) (sheet-full h (number-good (r .number) (stated-plots s len) t) (room-told s (len + record-length) u)))
-      (λ u. rw (from-good g e t u) (inserts h (number-good (r .number) (stated-plots s len) t) (room-good s (len + record-length) u))))
+      (λ t. cases (has-no-room s (grown-length s len c))
+      (λ u. rw (from-room g e t u) (sheet-full h (number-good (r .number) (stated-plots s len) t) (room-told s (grown-length s len c) u)))
+      (λ u. rw (from-good g e t u) (inserts h (number-good (r .number) (stated-plots s len) t) (room-good s (grown-length s len c) u))))
 
   insert-case : InsertCase s len r (inserted s len r)
   insert-case = go (tracing (r .outline)) refl
@@ -131,9 +135,9 @@ module _ (s : List ℕ) (len : ℕ) (r : Record) where
           (λ t. absurd (number-good (r .number) (stated-plots s len) t b))
       given (sheet-full {c = c} h b f) =
           cases (is-bad-number (r .number) (stated-plots s len)) (λ t. absurd (b (number-told (r .number) (stated-plots s len) t)))
-          (λ t. cases (has-no-room s (len + record-length)) (from-room (h .outline) (check-exactly s len (accepted c) .1 (h .sheet)) t)
-          (λ u. absurd (room-good s (len + record-length) u f)))
+          (λ t. cases (has-no-room s (grown-length s len c)) (from-room (h .outline) (check-exactly s len (accepted c) .1 (h .sheet)) t)
+          (λ u. absurd (room-good s (grown-length s len c) u f)))
       given (inserts {c = c} h b f) =
           cases (is-bad-number (r .number) (stated-plots s len)) (λ t. absurd (b (number-told (r .number) (stated-plots s len) t)))
-          (λ t. cases (has-no-room s (len + record-length)) (λ u. absurd (f (room-told s (len + record-length) u)))
+          (λ t. cases (has-no-room s (grown-length s len c)) (λ u. absurd (f (room-told s (grown-length s len c) u)))
           (from-good (h .outline) (check-exactly s len (accepted c) .1 (h .sheet)) t))

@@ -1,5 +1,5 @@
 -- An insert step by step: which records are admitted, how long the sheet then is, and the order of the refusals. Assumes nothing.
-use mathlib.Core.Path.{_≡_, refl, sym, _∙_}
+use mathlib.Core.Path.{_≡_, refl, sym, ap, _∙_}
 use mathlib.Core.Bool.{true, false}
 use mathlib.Core.List.{List}
 use Prim.Native.Nat.{ℕ, _+_, _*_, _≤_, _<_}
@@ -13,7 +13,6 @@ use Rattle.octagon.specs.declared.Octagon.{Octagon}
 use Rattle.octagon.specs.Outcome.{accepted, refused, then, left}
 use Rattle.octagon.proofs.Outcomes.{accepted-same}
 use Rattle.outline.specs.Tracing.{traced}
-use Rattle.records.proofs.Rows.{mul-more}
 use Rattle.sheet.specs.declared.Record.{Record}
 use Rattle.sheet.specs.declared.trailer.Trailer.{Trailer}
 use Rattle.sheet.specs.Answers.{bad-number, no-room}
@@ -22,7 +21,7 @@ use Rattle.sheet.specs.Trailer.{trailer-length}
 use Rattle.sheet.specs.Order.{present}
 use Rattle.sheet.specs.Sheets.{sheet-limit, Sheet, first, sheet-of, sheet-length}
 use Rattle.sheet.specs.Checking.{parsed}
-use Rattle.sheet.specs.Writing.{written-over, written-length, with-plot, is-bad-number, has-no-room, admitted, insertion, inserted, after-insert}
+use Rattle.sheet.specs.Writing.{written-over, written-length, with-plot, is-bad-number, has-no-room, admitted, insertion, inserted, after-insert, grown-length}
 use Rattle.sheet.proofs.Order.{length-put-in-order}
 use Rattle.sheet.proofs.Plots.{length-plots}
 use Rattle.sheet.proofs.Frames.{past}
@@ -74,17 +73,17 @@ module _ (s : List ℕ) (r : Record) (z : Sheet) where
 -- ---- how long the sheet then is
 
 module _ (s : List ℕ) (len : ℕ) (z : Trailer) (r : Record) (g : Good s len z) where
-  pub grown-length : sheet-length record-length (with-plot r (sheet-of s len z)) ≡ first len (z .distance) + record-length * (z .count + 1) + trailer-length
-  grown-length =
+  pub next-length-is : sheet-length record-length (with-plot r (sheet-of s len z)) ≡ first len (z .distance) + record-length * (z .count + 1) + trailer-length
+  next-length-is =
       let h = g .framing .holds in
       let a = length-take-le (first len (z .distance)) s (omega arith) in
       let b : length (with-plot r (sheet-of s len z) .plots) ≡ z .count + 1 =
       length-put-in-order r (sheet-of s len z .plots) ∙ omega (arith, length-plots (z .length) s (first len (z .distance)) (z .count)) in
       rw (a, b)
 
-  -- it has one record more
-  pub longer : sheet-length record-length (with-plot r (sheet-of s len z)) ≡ len + record-length
-  longer = let h = g .framing .holds in omega (arith, grown-length, g .framing .distance-is, mul-more record-length (z .count))
+  -- which is told by its trailer
+  pub next-length-stated : sheet-length record-length (with-plot r (sheet-of s len z)) ≡ grown-length s len (z .count)
+  next-length-stated = next-length-is ∙ ap (λ (t : Trailer). first len (t .distance) + record-length * (z .count + 1) + trailer-length) (g .is-trailer)
 
 -- ---- the order of the refusals
 

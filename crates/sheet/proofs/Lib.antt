@@ -21,3 +21,4 @@ pub mod Inserts
 pub mod Grown
 pub mod InsertCases
 pub mod Computed
+pub mod ComputedRefusals

@@ -18,7 +18,7 @@ use Rattle.sheet.specs.Sheets.{sheet-limit, Sheet, records-bytes, sheet-
 use Rattle.sheet.specs.Checking.{parsed}
 use Rattle.sheet.specs.Cases.{HasOctagon}
 use Rattle.sheet.specs.Writing.{written-over}
-use Rattle.sheet.proofs.Layouts.{record-has-layout}
+use Rattle.sheet.proofs.Layouts.{record-is-length}
 use Rattle.sheet.proofs.WrittenRows.{length-records-bytes}
 use Rattle.sheet.proofs.Sheets.{heading-again, parsed-again, trailer-of-again}
 
@@ -26,7 +26,7 @@ use Rattle.sheet.proofs.Sheets.{heading-again, parsed-again, trailer-of
 length-sheet-bytes : (z : Sheet) → length (sheet-bytes record-length z) ≡ sheet-length record-length z
 unfolding sheet-bytes
 length-sheet-bytes z =
-    length-append (z .heading) (records-bytes record-length (z .plots)) ∙ omega (arith, length-records-bytes record-length record-has-layout (z .plots))
+    length-append (z .heading) (records-bytes record-length (z .plots)) ∙ omega (arith, length-records-bytes record-length record-is-length (z .plots))
 
 -- where the heading is the buffer's own, the records and their trailer alone are written
 pub over-records : (s : List ℕ) (h : ℕ) (rs : List Record) → h ≤ length s
@@ -44,7 +44,7 @@ module _ (s : List ℕ) (z : Sheet) where
   over-is = rw (zero-add, length-sheet-bytes z)
 
   pub over-heading : take (length (z .heading)) (written-over s z) ≡ z .heading
-  over-heading = rw over-is (heading-again record-length record-has-layout z (drop (sheet-length record-length z) s))
+  over-heading = rw over-is (heading-again record-length record-is-length z (drop (sheet-length record-length z) s))
 
   pub over-past : drop (sheet-length record-length z) (written-over s z) ≡ drop (sheet-length record-length z) s
   over-past = rw over-is (drop-at (sheet-bytes record-length z) (drop (sheet-length record-length z) s) (sheet-length record-length z) (length-sheet-bytes z))
@@ -57,7 +57,7 @@ module _ (s : List ℕ) (z : Sheet) where
 
   module _ (k : sheet-length record-length z ≤ sheet-limit) where
     pub over-parsed : All (Fits (layout-of record-length)) (z .plots) → Ascending HasOctagon 0 (z .plots) → parsed (written-over s z) (sheet-length record-length z) ≡ accepted z
-    over-parsed a g = rw over-is (parsed-again z (drop (sheet-length record-length z) s) k a g)
+    over-parsed a g = rw over-is (parsed-again record-length record-is-length z (drop (sheet-length record-length z) s) k a g)
 
     pub over-trailer : TrailerOf (length (z .plots)) (part (written-over s z) (sheet-length record-length z - trailer-length) trailer-length)
     over-trailer = rw over-is (trailer-of-again z (drop (sheet-length record-length z) s) k)

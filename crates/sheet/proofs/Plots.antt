@@ -3,25 +3,27 @@
 use mathlib.Core.Path.{_≡_, refl, sym, ap, _∙_}
 use mathlib.Core.Bool.{true, false}
 use mathlib.Core.List.{List, [], _∷_, _++_, map}
-use Prim.Native.Nat.{ℕ, zero, suc, _+_, _-_, _*_, _^_, _≤_, _<_}
+use Prim.Native.Nat.{ℕ, zero, suc, _+_, _-_, _*_, _/_, _^_, _≤_, _<_}
 use native.Mathlib.Omega.{arith}
 use native.Mathlib.Nat.{mul-zero, mul-suc, add-zero, sub-zero, suc-sub-suc, pow-le-pow-right}
-use lib.ListN.{length, take, drop, getD, length-map}
+use lib.ListN.{length, take, drop, getD, set, length-map, length-set}
 use lib.Seq.{take-take, drop-drop}
+use lib.Signed.{mag}
 use borrow.Author.Tests.{lt-ltb, le-ltb, eq-eqb, ne-eqb}
 use Rattle.octagon.specs.Outcome.{accepted}
-use Rattle.records.specs.Numbers.{AreBytes, total-width, narrow, unpacked}
+use Rattle.records.specs.Numbers.{AreBytes, signed, twos, total-width, narrow, packed, unpacked}
 use Rattle.records.specs.Parts.{part}
 use Rattle.records.specs.Rows.{records}
 use Rattle.records.proofs.Parts.{drop-take}
 use Rattle.records.proofs.Rows.{length-records, records-more}
+use Rattle.records.proofs.Fields.{length-unpacked}
 use Rattle.records.proofs.Steps.{total-width-more}
 use Rattle.sheet.specs.declared.Record.{Record}
-use Rattle.sheet.specs.Layout.{field-count, number-width, record-length, layout-of, record-from, decoded, Fits}
+use Rattle.sheet.specs.Layout.{field-count, number-width, fee-width, record-length, layout-of, values, record-from, encoded, decoded, Fits, Sized}
 use Rattle.sheet.specs.Order.{nth, All, none, more, Ascending, next, present, rank, put-in-order}
 use Rattle.sheet.specs.Sheets.{plots-from}
 use Rattle.sheet.specs.Cases.{HasOctagon}
-use Rattle.sheet.proofs.Layouts.{every-field, all-narrow, narrow-fields, within-length, decoded-at, field-below}
+use Rattle.sheet.proofs.Layouts.{every-field, all-narrow, narrow-fields, narrow-fee, within-length, decoded-at, field-below, copied}
 use Rattle.sheet.proofs.Order.{put-in-order-parts}
 use Rattle.sheet.proofs.Outlines.{accepted-fits}
 
@@ -30,6 +32,11 @@ use Rattle.sheet.proofs.Outlines.{accepted-fits}
 -- its number lies within it
 pub number-within : (L : ℕ) → getD (layout-of L) 0 0 ≤ L
 number-within L = omega (arith, total-width-more (layout-of L) 0 (omega (arith, every-field L)), within-length L)
+
+-- a field of at most m bytes that was read is a number of m bytes
+field-small : (L : ℕ) (s : List ℕ) (at k m : ℕ) → AreBytes s → k < field-count → getD (layout-of L) k 0 ≤ m → getD (unpacked (layout-of L) (drop at s)) k 0 < 256 ^ m
+field-small L s at k m b h l =
+    omega (arith, field-below (layout-of L) s at k b (omega (arith, every-field L)), pow-le-pow-right {n = 256} (omega arith) {i = getD (layout-of L) k 0} {j = m} l)
 
 module _ (L : ℕ) (s : List ℕ) (at : ℕ) (ws : List ℕ) (e : ws ≡ layout-of L) where
   pub fields-within : at + L ≤ length s → ((at + total-width ws ≤ length s) × (narrow ws ≡ true)) × (field-count ≡ length ws)
@@ -41,8 +48,41 @@ module _ (L : ℕ) (s : List ℕ) (at : ℕ) (ws : List ℕ) (e : ws ≡ layout-
         let n = every-field L in
         rw (f, e) ((narrow-fields L 1, narrow-fields L 2), (field-below (layout-of L) s at 1 b (omega arith), field-below (layout-of L) s at 2 b (omega arith)))
 
+    pub fee-small : AreBytes s → getD v 11 0 < 256 ^ fee-width
+    fee-small b = rw (f, e) (field-small L s at 11 fee-width b (omega arith) (narrow-fee L))
+
+    read-length : length v ≡ field-count
+    read-length = ap length f ∙ length-unpacked ws (drop at s) ∙ ap length e ∙ every-field L
+
     pub read-there : record-from ws v ≡ decoded (layout-of L) (part s at L)
     read-there = rw (f, e) (sym (decoded-at (layout-of L) s at L (within-length L)))
+
+    -- its numbers as they are written in the layout us of records of M bytes, which it fits
+    module _ (M : ℕ) (us : List ℕ) (g : us ≡ layout-of M) (fits : Fits (layout-of M) (decoded (layout-of L) (part s at L))) where
+      pub resized-i : AreBytes s → (getD ws 1 0 ≤ 4) × (getD v 1 0 < 256 ^ getD ws 1 0) × (getD us 1 0 ≤ 4) × (mag (signed (getD ws 1 0) (getD v 1 0)) < 256 ^ getD us 1 0 / 2)
+      resized-i b =
+          let q = signs-fit b in
+          let m : mag (signed (getD ws 1 0) (getD v 1 0)) < 256 ^ getD us 1 0 / 2 = rw g (rw (← read-there) at (fits .fits-i)) in
+          (q .0 .0, q .1 .0, rw g (narrow-fields M 1), m)
+
+      pub resized-j : AreBytes s → (getD ws 2 0 ≤ 4) × (getD v 2 0 < 256 ^ getD ws 2 0) × (getD us 2 0 ≤ 4) × (mag (signed (getD ws 2 0) (getD v 2 0)) < 256 ^ getD us 2 0 / 2)
+      resized-j b =
+          let q = signs-fit b in
+          let m : mag (signed (getD ws 2 0) (getD v 2 0)) < 256 ^ getD us 2 0 / 2 = rw g (rw (← read-there) at (fits .fits-j)) in
+          (q .0 .1, q .1 .1, rw g (narrow-fields M 2), m)
+
+      pub copied-there : (i j : ℕ) → i ≡ twos (getD us 1 0) (signed (getD ws 1 0) (getD v 1 0)) → j ≡ twos (getD us 2 0) (signed (getD ws 2 0) (getD v 2 0))
+          → packed us (set (set v 1 i) 2 j) ≡ encoded (layout-of M) (decoded (layout-of L) (part s at L))
+      unfolding encoded
+      copied-there i j p q =
+          rw (p, q) (ap (packed us) (copied ws us v read-length)
+          ∙ ap (λ (r : Record). packed us (values us r)) read-there
+          ∙ ap (λ (ts : List ℕ). packed ts (values ts (decoded (layout-of L) (part s at L)))) g)
+
+      -- they are as many as there are fields
+      pub copied-within : (i j to : ℕ) → to + M ≤ length s → (to + total-width us ≤ length s) × (length (set (set v 1 i) 2 j) ≡ length us)
+      copied-within i j to m =
+          (rw g (omega (arith, within-length M)), length-set (set v 1 i) 2 j ∙ length-set v 1 i ∙ read-length ∙ sym (ap length g ∙ every-field M))
 
 -- ---- how many, and one by one
 
@@ -135,14 +175,16 @@ present-end L s p n v h = rw (plots-none L s p n h)
 
 -- ---- which layout they fit
 
--- a plot number that was read is one of 32 bits
-number-small : (L : ℕ) (s : List ℕ) (at : ℕ) → AreBytes s → decoded (layout-of L) (part s at L) .number < 256 ^ number-width
-number-small L s at b =
-    rw (decoded-at (layout-of L) s at L (within-length L))
-    (omega (arith, field-below (layout-of L) s at 0 b (omega (arith, every-field L)), pow-le-pow-right {n = 256} (omega arith) {i = getD (layout-of L) 0 0} {j = 4} (narrow-fields L 0)))
+-- a plot number that was read is one of 32 bits, and a fee row of 16
+pub plot-sized : (L : ℕ) (s : List ℕ) (at : ℕ) → AreBytes s → Sized (decoded (layout-of L) (part s at L))
+plot-sized L s at b =
+    rw (decoded-at (layout-of L) s at L (within-length L)) (record {
+      number-fits = field-small L s at 0 number-width b (omega arith) (narrow-fields L 0);
+      fee-fits = field-small L s at 11 fee-width b (omega arith) (narrow-fee L);
+    })
 
--- records that were checked fit document 01's layout
+-- records that were checked fit the layout that is written
 pub plots-fit : (L : ℕ) (s : List ℕ) (at n v : ℕ) → AreBytes s → Ascending HasOctagon v (plots-from L s at n) → All (Fits (layout-of record-length)) (plots-from L s at n)
 unfolding plots-from
 plots-fit L s at zero v b g = none
-plots-fit L s at (suc n) v b (next l q g) = more (accepted-fits _ (q .0) (number-small L s at b) (q .1)) (plots-fit L s (at + L) n _ b g)
+plots-fit L s at (suc n) v b (next h q g) = more (accepted-fits _ (q .0) (plot-sized L s at b) (q .1)) (plots-fit L s (at + L) n _ b g)

@@ -11,20 +11,20 @@ use Rattle.records.specs.Numbers.{AreBytes}
 use Rattle.records.specs.Parts.{part, splice}
 use Rattle.records.specs.Rows.{records}
 use Rattle.records.proofs.Numbers.{drop-bytes, take-bytes}
-use Rattle.records.proofs.Splices.{length-splice, part-before, splice-append, splice-before}
+use Rattle.records.proofs.Splices.{length-splice, part-before, splice-append, splice-before, splice-same}
 use Rattle.records.proofs.Rows.{Each, none, more, length-joined, joined-append, records-joined, mul-more}
 use Rattle.sheet.specs.declared.Record.{Record}
-use Rattle.sheet.specs.Layout.{layout-of, HasLayout, encoded, decoded, Fits}
+use Rattle.sheet.specs.Layout.{IsRecordLength, layout-of, encoded, decoded, Fits}
 use Rattle.sheet.specs.Trailer.{trailer-length, trailer}
 use Rattle.sheet.specs.Order.{All, none as all-none, more as all-more}
 use Rattle.sheet.specs.Sheets.{plots-from, rows-bytes, records-bytes}
-use Rattle.sheet.proofs.Layouts.{length-encoded, decoded-encoded, encoded-decoded, every-field}
+use Rattle.sheet.proofs.Layouts.{length-encoded, decoded-encoded, encoded-decoded, every-field, takes-all}
 use Rattle.sheet.proofs.Plots.{length-plots, plots-more}
 use Rattle.sheet.proofs.TrailerBytes.{length-trailer}
 
-module _ (L : ℕ) (e : HasLayout L) where
+module _ (L : ℕ) (l : IsRecordLength L) where
   length-row : (r : Record) → length (encoded (layout-of L) r) ≡ L
-  length-row r = length-encoded (layout-of L) (every-field L) r ∙ e
+  length-row r = length-encoded (layout-of L) (every-field L) r ∙ takes-all L l
 
   each-row : (rs : List Record) → Each L (map (encoded (layout-of L)) rs)
   each-row [] = none
@@ -55,16 +55,25 @@ module _ (L : ℕ) (e : HasLayout L) where
   rows-kept s at zero b h = rw mul-zero
   rows-kept s at (suc n) b h =
       let m : L * suc n ≡ L + L * n = omega (arith, mul-suc L n) in
-      let l : length (part s at L) ≡ L = length-take-le L (drop at s) (rw length-drop (omega arith)) in
-      let f = encoded-decoded (layout-of L) (every-field L) (part s at L) (take-bytes L (drop at s) (drop-bytes at s b)) (l ∙ sym e) in
+      let q : length (part s at L) ≡ L = length-take-le L (drop at s) (rw length-drop (omega arith)) in
+      let f = encoded-decoded (layout-of L) (every-field L) (part s at L) (take-bytes L (drop at s) (drop-bytes at s b)) (q ∙ sym (takes-all L l)) in
       rw (f, rows-kept s (at + L) n b (omega arith), m, take-add, drop-drop)
 
-  pub rows-same : (M : ℕ) → M ≡ L → (s : List ℕ) (at n : ℕ) → AreBytes s → at + L * n ≤ length s → rows-bytes L (plots-from M s at n) ≡ part s at (M * n)
-  rows-same M q s at n b h = rw q (rows-kept s at n b h)
+  -- so room for one more after k of them is made by moving the n others up
+  pub rows-moved : (M : ℕ) → M ≡ L → (s : List ℕ) (at k n : ℕ) → AreBytes s → at + L * k + L + L * n ≤ length s
+      → splice s (at + L * k + L) (part s (at + L * k) (L * n))
+      ≡ splice (splice s (at + L * k + L) (rows-bytes L (plots-from M s (at + M * k) n))) at (rows-bytes L (plots-from M s at k))
+  rows-moved M q s at k n b h =
+      let to = at + L * k + L in
+      let v = part s (at + L * k) (L * n) in
+      let u : length v ≡ L * n = length-take-le (L * n) (drop (at + L * k) s) (rw length-drop (omega arith)) in
+      let e = part-before s to v at (L * k) (omega arith) (omega arith) in
+      rw (q, rows-kept s (at + L * k) n b (omega arith), rows-kept s at k b (omega arith))
+      (sym (ap (splice (splice s to v) at) (sym e) ∙ splice-same (splice s to v) at (L * k) (omega (arith, length-splice s to v (omega arith)))))
 
   -- records that are read with M bytes each and moved up, the last first: in t those from index P on stand from index Q on, and the one
   -- before them, at p, comes to q
-  module _ (s t : List ℕ) (M P Q n p q : ℕ) (a : p + M ≡ P) (b : q + L ≡ Q) (h : P ≤ Q) (l : Q + L * n ≤ length s) (f : t ≡ splice s Q (rows-bytes L (plots-from M s P n))) where
+  module _ (s t : List ℕ) (M P Q n p q : ℕ) (a : p + M ≡ P) (b : q + L ≡ Q) (h : P ≤ Q) (room : Q + L * n ≤ length s) (f : t ≡ splice s Q (rows-bytes L (plots-from M s P n))) where
     pub moved-part : part t p M ≡ part s p M
     moved-part = rw f (part-before s Q (rows-bytes L (plots-from M s P n)) p M (omega arith) (omega arith))
 

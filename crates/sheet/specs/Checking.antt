@@ -2,7 +2,7 @@
 -- proofs/ReadCases.antt say exactly when each answer is given. Assumes nothing.
 use mathlib.Core.Bool.{Bool, cond, not, _||_}
 use mathlib.Core.List.{List, [], _∷_}
-use Prim.Native.Nat.{ℕ, _+_, _-_, _*_, _≤_}
+use Prim.Native.Nat.{ℕ, _-_, _*_}
 use lib.ListN.{length}
 use lib.Dec.{ltb, eqb}
 use Rattle.octagon.specs.Outcome.{Outcome, accepted, refused, then, left}
@@ -10,10 +10,10 @@ use Rattle.outline.specs.Tracing.{traced}
 use Rattle.sheet.specs.declared.Record.{Record}
 use Rattle.sheet.specs.declared.trailer.Trailer.{Trailer}
 use Rattle.sheet.specs.Answers.{bad-length, bad-trailer, bad-distance, bad-number}
-use Rattle.sheet.specs.Layout.{record-length}
+use Rattle.sheet.specs.Layout.{is-record-length}
 use Rattle.sheet.specs.Trailer.{trailer-length, letters, trailer-at}
 use Rattle.sheet.specs.Order.{nth}
-use Rattle.sheet.specs.Sheets.{sheet-limit, Sheet, plots-from, first, sheet-of}
+use Rattle.sheet.specs.Sheets.{sheet-limit, Sheet, sheet-of}
 
 -- ---- the frame: the length and the trailer
 
@@ -23,7 +23,7 @@ is-bad-length s len = ltb len trailer-length || ltb sheet-limit len || ltb (leng
 
 -- record length, zero bytes or letters are wrong
 abbrev pub has-bad-marks : Trailer → Bool
-has-bad-marks z = not (eqb (z .length) record-length) || not (eqb (z .zeros) 0) || not (eqb (z .letters) letters)
+has-bad-marks z = not (is-record-length (z .length)) || not (eqb (z .zeros) 0) || not (eqb (z .letters) letters)
 
 -- the distance is not that of the records, or exceeds the length less the trailer's
 abbrev pub is-bad-distance : ℕ → Trailer → Bool
@@ -36,12 +36,6 @@ stated len z = cond (has-bad-marks z) (refused bad-trailer) (cond (is-bad-distan
 -- and 8 first
 unfoldable pub framed : List ℕ → ℕ → Outcome Trailer
 framed s len = cond (is-bad-length s len) (refused bad-length) (stated len (trailer-at s (len - trailer-length)))
-
--- the first len bytes of s are as many as a sheet may have, and have room for d bytes of records and a trailer
-pub record HoldsRecords (s : List ℕ) (len d : ℕ) : Type 0 where
-  pub within : len ≤ length s
-  pub short : len ≤ sheet-limit
-  pub long : d + trailer-length ≤ len
 
 -- ---- the records
 
@@ -77,10 +71,6 @@ checked s len = then (parsed s len) (λ z. accepted (length (z .plots)))
 unfoldable pub fetched : List ℕ → ℕ → ℕ → Outcome Record
 fetched s len k = then (parsed s len) (λ z. nth (z .plots) k)
 
--- what `read` answers of a sheet in which a check has counted c records: 8 for the length, 10 when the records exceed the length
--- less the trailer's, 13 when k is not below c. No record is checked.
-unfoldable pub read : List ℕ → ℕ → ℕ → ℕ → Outcome Record
-read s len c k =
-    cond (is-bad-length s len) (refused bad-length)
-    (cond (ltb (len - trailer-length) (record-length * c)) (refused bad-distance)
-    (nth (plots-from record-length s (first len (record-length * c)) c) k))
+-- what `read` answers: the frame's refusals, and 13 when k is not below the count. No record is checked.
+unfoldable pub read : List ℕ → ℕ → ℕ → Outcome Record
+read s len k = then (framed s len) (λ z. nth (sheet-of s len z .plots) k)

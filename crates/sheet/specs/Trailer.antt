@@ -1,11 +1,10 @@
--- The trailer that ends a sheet, as document 01 lays it out. Assumes nothing.
+-- The trailer that ends a sheet, as document 01 lays it out, over the record length. Assumes nothing.
 use Prim.Native.Nat.{ℕ, _*_}
 use mathlib.Core.List.{List, [], _∷_, _++_}
 use lib.ListN.{getD, drop}
 use Rattle.records.specs.Text.{ascii}
 use Rattle.records.specs.Numbers.{number, bytes, packed, unpacked}
 use Rattle.sheet.specs.declared.trailer.Trailer.{Trailer}
-use Rattle.sheet.specs.Layout.{record-length}
 
 -- its length in bytes
 abbrev pub trailer-length : ℕ
@@ -26,9 +25,9 @@ trailer-values L n = L * n ∷ n ∷ L ∷ 0 ∷ letters ∷ []
 unfoldable pub trailer : ℕ → ℕ → List ℕ
 trailer L n = packed trailer-layout (trailer-values L n)
 
--- its last eight bytes for records as document 01 lays them out, however many: the record length, two zero bytes and the letters
-abbrev pub marks : List ℕ
-marks = bytes 2 record-length ++ (0 ∷ 0 ∷ ascii "GRND")
+-- its last eight bytes for records of L bytes, however many: the record length, two zero bytes and the letters
+abbrev pub marks : ℕ → List ℕ
+marks L = bytes 2 L ++ (0 ∷ 0 ∷ ascii "GRND")
 
 -- the trailer of these numbers, and the trailer at index t of s
 abbrev pub trailer-from : List ℕ → Trailer

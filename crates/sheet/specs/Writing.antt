@@ -1,5 +1,5 @@
--- What `start` and `insert` answer and leave in the buffer: definitions that compute, and for each call what document 01 says of an
--- accepted one (`StartedSheet`, `GrownSheet`), which proofs/Starts.antt and proofs/Grown.antt show of them. Assumes nothing.
+-- What `start` and `insert` answer and leave in the buffer: definitions that compute, and for each call what documents 01 and 02 (U2) say
+-- of an accepted one (`StartedSheet`, `GrownSheet`), which proofs/Starts.antt and proofs/Grown.antt show of them. Assumes nothing.
 use mathlib.Core.Path.{_≡_}
 use mathlib.Core.Bool.{Bool, cond, _||_}
 use mathlib.Core.List.{List, []}
@@ -15,8 +15,9 @@ use Rattle.sheet.specs.Layout.{record-length}
 use Rattle.sheet.specs.Trailer.{trailer-length}
 use Rattle.sheet.specs.Bytes.{TrailerOf}
 use Rattle.sheet.specs.Order.{present, put-in-order}
-use Rattle.sheet.specs.Sheets.{sheet-limit, Sheet, first, sheet-bytes, sheet-length}
+use Rattle.sheet.specs.Sheets.{sheet-limit, Sheet, sheet-bytes, sheet-length}
 use Rattle.sheet.specs.Checking.{parsed, checked, fetched}
+use Rattle.sheet.specs.Cases.{stated-heading}
 
 -- a buffer s with a sheet written at its start: what follows the sheet stays
 unfoldable pub written-over : List ℕ → Sheet → List ℕ
@@ -81,10 +82,14 @@ inserted s len r = then (insertion s len r) (λ z. accepted (written-length z))
 unfoldable pub after-insert : List ℕ → ℕ → Record → List ℕ
 after-insert s len r = left s (insertion s len r) (written-over s)
 
+-- how long a sheet of len bytes and c records, of either length, is with one more: "heading + 26 × (count + 1) + 16"
+abbrev pub grown-length : List ℕ → ℕ → ℕ → ℕ
+grown-length s len c = stated-heading s len + record-length * (c + 1) + trailer-length
+
 -- what an accepted insert of the record r that answers n leaves in s, a sheet of len bytes and c records, which is then s′
 pub record GrownSheet (s s′ : List ℕ) (len c : ℕ) (r : Record) (n : ℕ) : Type 0 where
   -- it answers the new length, and the sheet checks with one record more
-  pub length-is : n ≡ len + record-length
+  pub length-is : n ≡ grown-length s len c
   pub counted : checked s len ≡ accepted c
   pub checks : checked s′ n ≡ accepted (c + 1)
   -- the new record is fetched at its place, the old ones before and after it in their order
@@ -95,6 +100,6 @@ pub record GrownSheet (s s′ : List ℕ) (len c : ℕ) (r : Record) (n : ℕ) :
   -- "with the trailer brought up to date"
   pub trailer-is : TrailerOf (c + 1) (part s′ (n - trailer-length) trailer-length)
   -- heading and bytes past the new length keep their values
-  pub heading : take (first len (record-length * c)) s′ ≡ take (first len (record-length * c)) s
+  pub heading : take (stated-heading s len) s′ ≡ take (stated-heading s len) s
   pub past : drop n s′ ≡ drop n s
   pub same-length : length s′ ≡ length s

@@ -1,4 +1,4 @@
--- Each answer of `start` and of `insert` with what it says of the arguments, in the words and the order of document 01.
+-- Each answer of `start` and of `insert` with what it says of the arguments, in the words and the order of documents 01 and 02 (U2).
 -- proofs/Starts.antt and proofs/InsertCases.antt show that each is given exactly where its case holds. Assumes nothing.
 use mathlib.Core.Path.{_≡_}
 use mathlib.Core.Logic.{_⊎_}
@@ -13,11 +13,11 @@ use Rattle.outline.specs.Walk.{InsideWalk}
 use Rattle.outline.specs.Tracing.{not-closed}
 use Rattle.sheet.specs.declared.Record.{Record}
 use Rattle.sheet.specs.Answers.{bad-length, bad-number, no-room}
-use Rattle.sheet.specs.Layout.{record-length}
 use Rattle.sheet.specs.Trailer.{trailer-length}
 use Rattle.sheet.specs.Order.{Present}
 use Rattle.sheet.specs.Sheets.{sheet-limit}
 use Rattle.sheet.specs.Cases.{stated-plots, CheckCase}
+use Rattle.sheet.specs.Writing.{grown-length}
 
 -- ---- start a sheet
 
@@ -43,16 +43,16 @@ pub record GoodSheet (s : List ℕ) (len : ℕ) (r : Record) (c : ℕ) : Type 0 
 abbrev pub BadNumber : List ℕ → ℕ → Record → Type 0
 BadNumber s len r = (r .number ≡ 0) ⊎ Present (r .number) (stated-plots s len)
 
--- "length plus 24 exceeds the buffer or 65,536"
-abbrev pub NoRoom : List ℕ → ℕ → Type 0
-NoRoom s len = (length s < len + record-length) ⊎ (sheet-limit < len + record-length)
+-- the new length "exceeds the buffer or 65,536" ("Insert's 12 now goes by the new length")
+abbrev pub NoRoom : List ℕ → ℕ → ℕ → Type 0
+NoRoom s len c = (length s < grown-length s len c) ⊎ (sheet-limit < grown-length s len c)
 
--- "The outline's 3 and 2, the check's refusals, 11 when the number is 0 or present, 12 when length plus 24 exceeds the buffer or 65,536.
+-- "The outline's 3 and 2, the check's refusals, 11 when the number is 0 or present, 12 ..
 -- .. the answer is the new length."
 pub data InsertCase (s : List ℕ) (len : ℕ) (r : Record) : Outcome ℕ → Type 0 where
   plot-open : ¬ (Closes (r .outline)) → InsertCase s len r (refused not-closed)
   plot-off : Closes (r .outline) → LeavesMap (InsideWalk (r .outline)) → InsertCase s len r (refused off-map)
   sheet-refused : {e : ℕ} → GoodOutline (r .outline) → CheckCase s len (refused e) → InsertCase s len r (refused e)
   number-bad : {c : ℕ} → GoodSheet s len r c → BadNumber s len r → InsertCase s len r (refused bad-number)
-  sheet-full : {c : ℕ} → GoodSheet s len r c → ¬ (BadNumber s len r) → NoRoom s len → InsertCase s len r (refused no-room)
-  inserts : {c : ℕ} → GoodSheet s len r c → ¬ (BadNumber s len r) → ¬ (NoRoom s len) → InsertCase s len r (accepted (len + record-length))
+  sheet-full : {c : ℕ} → GoodSheet s len r c → ¬ (BadNumber s len r) → NoRoom s len c → InsertCase s len r (refused no-room)
+  inserts : {c : ℕ} → GoodSheet s len r c → ¬ (BadNumber s len r) → ¬ (NoRoom s len c) → InsertCase s len r (accepted (grown-length s len c))

@@ -4,11 +4,10 @@ ghost use Prim.Native.Nat.{_+_, _*_, _≤_};
 ghost use lib.ListN.{length};
 ghost use Rattle.records.specs.Parts.{part};
 ghost use Rattle.sheet.specs.Answers.{«trailer-outcome», «number-outcome»};
-ghost use Rattle.sheet.specs.Layout.{«layout-of», decoded};
+ghost use Rattle.sheet.specs.Layout.{IsRecordLength, «layout-of», decoded};
 ghost use Rattle.sheet.specs.Sheets.{«plots-from»};
 ghost use Rattle.sheet.specs.Checking.{judged, surveyed, inspected};
 use crate::BAD_NUMBER;
-use crate::RECORD;
 use crate::TRAILER;
 use crate::encoding::number_at;
 use crate::encoding::outline_at;
@@ -25,7 +24,7 @@ enum Judged {
 
 // The plot number of the record of `each` bytes at an index. Refuses one that is not above `before`, then the outline's refusals.
 fn judge(s: &[u8], at: usize, each: usize, before: u32) -> Judged
-    requires { ⌜ at + each ≤ length (now s) ⌝ }
+    requires { ⌜ (at + each ≤ length (now s)) × IsRecordLength each ⌝ }
     ensures { λ r. ⌜ «number-outcome» r ≡ judged before (decoded («layout-of» each) (part (now (s .entry)) at each)) ⌝ }
 {
     let number = number_at(s, at, each);
@@ -40,7 +39,7 @@ fn judge(s: &[u8], at: usize, each: usize, before: u32) -> Judged
 
 // Checks the records of `each` bytes that a trailer counts, in order, and answers the trailer.
 fn survey(s: &[u8], first: usize, each: usize, z: Trailer) -> Framed
-    requires { ⌜ first + each * z .count ≤ length (now s) ⌝ }
+    requires { ⌜ (first + each * z .count ≤ length (now s)) × IsRecordLength each ⌝ }
     ensures { λ r. ⌜ «trailer-outcome» r ≡ surveyed z 0 («plots-from» each (now (s .entry)) first (z .count)) ⌝ }
 {
     let mut p = first;
@@ -65,9 +64,11 @@ fn survey(s: &[u8], first: usize, each: usize, z: Trailer) -> Framed
 pub fn inspect(sheet: &[u8], len: usize) -> Framed
     ensures { λ r. ⌜ «trailer-outcome» r ≡ inspected (now (sheet .entry)) len ⌝ }
 {
-    let framed = frame(sheet, len);
-    let Framed::Trailer(z) = framed else {
-        return framed;
-    };
-    survey(sheet, len - TRAILER - (z.distance as usize), RECORD, z)
+    match frame(sheet, len) {
+        Framed::Refused(e) => Framed::Refused(e),
+        Framed::Trailer(z) => {
+            let first = len - TRAILER - (z.distance as usize);
+            survey(sheet, first, z.length as usize, z)
+        }
+    }
 }

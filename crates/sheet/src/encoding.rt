@@ -3,32 +3,48 @@ ghost use mathlib.Core.Path.{_≡_};
 ghost use Prim.Native.Nat.{_+_, _^_, _≤_, _<_};
 ghost use lib.ListN.{length, getD};
 ghost use Rattle.records.specs.Parts.{part, splice};
-ghost use Rattle.sheet.specs.Layout.{«layout-of», «outline-from», decoded, encoded, Fits};
-use crate::RECORD;
+ghost use Rattle.sheet.specs.Layout.{IsRecordLength, «is-record-length», «layout-of», «outline-from», decoded, encoded, Fits};
+use crate::BASE_RECORD;
+use crate::FEE_RECORD;
 use crate::Record;
 use crate::numbers::pack;
 use crate::numbers::read_number;
 use crate::numbers::unpack;
+use crate::signed::resize;
 use crate::signed::to_signed;
 use crate::signed::to_twos;
 use outline::Outline;
 
-// How many fields a record has: plot number, i and j, n0 to n7.
-const FIELDS: usize = 11;
+// Whether records may be so long.
+pub fn is_record_length(each: usize) -> bool
+    ensures { λ r. ⌜ r ≡ «is-record-length» each ⌝ }
+{
+    (each == BASE_RECORD) | (each == FEE_RECORD)
+}
 
-// Their widths in bytes, in a record of RECORD bytes.
-const LAYOUT: [usize; FIELDS] = [4, 2, 2, 2, 2, 2, 2, 2, 2, 2, 2];
+// How many fields a record has: plot number, i and j, n0 to n7, fee row.
+const FIELDS: usize = 12;
 
-// Their widths in a record of `each` bytes: all 0 where there are no such records.
+// Their widths in bytes, in document 01's records, which lack the fee row, and in records that have it.
+const BASE_LAYOUT: [usize; FIELDS] = [4, 2, 2, 2, 2, 2, 2, 2, 2, 2, 2, 0];
+
+const FEE_LAYOUT: [usize; FIELDS] = [4, 2, 2, 2, 2, 2, 2, 2, 2, 2, 2, 2];
+
+// Their widths in a record of `each` bytes.
 fn layout_of(each: usize) -> [usize; FIELDS]
+    requires { ⌜ IsRecordLength each ⌝ }
     ensures { λ r. ⌜ r ≡ «layout-of» each ⌝ }
 {
-    if each == RECORD { LAYOUT } else { [0; FIELDS] }
+    if each == BASE_RECORD {
+        BASE_LAYOUT
+    } else {
+        FEE_LAYOUT
+    }
 }
 
 // The plot number of the record of `each` bytes at an index.
 pub fn number_at(s: &[u8], at: usize, each: usize) -> u32
-    requires { ⌜ at + each ≤ length (now s) ⌝ }
+    requires { ⌜ (at + each ≤ length (now s)) × IsRecordLength each ⌝ }
     ensures { λ r. ⌜ r ≡ decoded («layout-of» each) (part (now (s .entry)) at each) .number ⌝ }
 {
     let widths = layout_of(each);
@@ -58,7 +74,7 @@ fn outline_of(v: &[u32; FIELDS], widths: &[usize; FIELDS]) -> Outline
 // The outline of the record of `each` bytes at an index. The check alone calls it, on every record, so that it is compiled into that
 // loop.
 pub fn outline_at(s: &[u8], at: usize, each: usize) -> Outline
-    requires { ⌜ at + each ≤ length (now s) ⌝ }
+    requires { ⌜ (at + each ≤ length (now s)) × IsRecordLength each ⌝ }
     ensures { λ r. ⌜ r ≡ decoded («layout-of» each) (part (now (s .entry)) at each) .outline ⌝ }
 {
     let widths = layout_of(each);
@@ -69,7 +85,7 @@ pub fn outline_at(s: &[u8], at: usize, each: usize) -> Outline
 
 // The record of `each` bytes at an index.
 pub fn record_at(s: &[u8], at: usize, each: usize) -> Record
-    requires { ⌜ at + each ≤ length (now s) ⌝ }
+    requires { ⌜ (at + each ≤ length (now s)) × IsRecordLength each ⌝ }
     ensures { λ r. ⌜ r ≡ decoded («layout-of» each) (part (now (s .entry)) at each) ⌝ }
 {
     let widths = layout_of(each);
@@ -77,12 +93,17 @@ pub fn record_at(s: &[u8], at: usize, each: usize) -> Record
     unpack(s, at, &widths, &mut v);
     let number = v[0];
     let outline = outline_of(&v, &widths);
-    Record { number, outline }
+    let fee_row = v[11] as u16;
+    Record {
+        number,
+        outline,
+        fee_row,
+    }
 }
 
 // Writes a record into the `each` bytes at an index.
 pub fn put_record(s: &mut [u8], at: usize, each: usize, r: Record)
-    requires { ⌜ (at + each ≤ length (now s)) × Fits («layout-of» each) r ⌝ }
+    requires { ⌜ (at + each ≤ length (now s)) × IsRecordLength each × Fits («layout-of» each) r ⌝ }
     ensures { λ _. ⌜ now (s .exit) ≡ splice (now (s .entry)) at (encoded («layout-of» each) r) ⌝ }
 {
     let widths = layout_of(each);
@@ -101,6 +122,25 @@ pub fn put_record(s: &mut [u8], at: usize, each: usize, r: Record)
         o.n5,
         o.n6,
         o.n7,
+        r.fee_row as u32,
     ];
     pack(s, at, &widths, &v);
+}
+
+// Writes the record of `each` bytes at `from` into the `wide` bytes at `to`, field by field. `recode` alone calls it, on every record,
+// so that it is compiled into that loop.
+pub fn copy_record(s: &mut [u8], from: usize, each: usize, to: usize, wide: usize)
+    requires { ⌜ (from + each ≤ length (now s)) × (to + wide ≤ length (now s)) ⌝ }
+    requires { ⌜ IsRecordLength each × IsRecordLength wide × Fits («layout-of» wide) (decoded («layout-of» each) (part (now s) from each)) ⌝ }
+    ensures { λ _. ⌜ now (s .exit) ≡ splice (now (s .entry)) to (encoded («layout-of» wide) (decoded («layout-of» each) (part (now (s .entry)) from each))) ⌝ }
+{
+    let old = layout_of(each);
+    let new = layout_of(wide);
+    let mut v = [0u32; FIELDS];
+    unpack(s, from, &old, &mut v);
+    let i = resize(v[1], old[1], new[1]);
+    let j = resize(v[2], old[2], new[2]);
+    v[1] = i;
+    v[2] = j;
+    pack(s, to, &new, &v);
 }

@@ -5,7 +5,7 @@ ghost use lib.ListN.{length};
 ghost use Rattle.octagon.specs.Outcome.{accepted, «then», left};
 ghost use Rattle.records.specs.Parts.{splice};
 ghost use Rattle.sheet.specs.Answers.{«length-outcome»};
-ghost use Rattle.sheet.specs.Layout.{«record-length», «layout-of», Fits};
+ghost use Rattle.sheet.specs.Layout.{IsRecordLength, «record-length», «layout-of», Fits};
 ghost use Rattle.sheet.specs.Trailer.{«trailer-length»};
 ghost use Rattle.sheet.specs.Order.{All, «put-in-order»};
 ghost use Rattle.sheet.specs.Sheets.{«sheet-limit», «plots-from», «records-bytes», «sheet-length», «sheet-of»};
@@ -21,7 +21,7 @@ use crate::Written;
 use crate::checking::inspect;
 use crate::encoding::put_record;
 use crate::rows::has_number;
-use crate::rows::move_records;
+use crate::rows::make_room;
 use crate::rows::rank_of;
 use crate::trailer::Framed;
 use crate::trailer::Trailer;
@@ -36,7 +36,7 @@ fn admit(sheet: &[u8], len: usize, z: Trailer, r: Record) -> Written
     let first = len - TRAILER - (z.distance as usize);
     let count = z.count as usize;
     let v = r.number;
-    if (v == 0) | has_number(sheet, first, count, RECORD, v) {
+    if (v == 0) | has_number(sheet, first, count, z.length as usize, v) {
         return Written::Refused(BAD_NUMBER);
     }
     let next = first + RECORD * (count + 1) + TRAILER;
@@ -48,17 +48,15 @@ fn admit(sheet: &[u8], len: usize, z: Trailer, r: Record) -> Written
 
 // Writes the `count` records of `each` bytes from index `at` on anew, with r in its place among them, and their trailer.
 fn put_sheet(s: &mut [u8], at: usize, count: usize, each: usize, r: Record)
-    requires { ⌜ (each ≤ «record-length») × (at + «record-length» * (count + 1) + «trailer-length» ≤ length (now s)) ⌝ }
+    requires { ⌜ IsRecordLength each × (at + «record-length» * (count + 1) + «trailer-length» ≤ length (now s)) ⌝ }
     requires { ⌜ at + «record-length» * (count + 1) + «trailer-length» ≤ «sheet-limit» ⌝ }
     requires { ⌜ All (Fits («layout-of» «record-length»)) («plots-from» each (now s) at count) × Fits («layout-of» «record-length») r ⌝ }
     ensures { λ _. ⌜ now (s .exit) ≡ splice (now (s .entry)) at («records-bytes» «record-length» («put-in-order» r («plots-from» each (now (s .entry)) at count))) ⌝ }
 {
     let v = r.number;
     let k = rank_of(s, at, count, each, v);
-    let here = at + RECORD * k;
-    move_records(s, at + each * k, count - k, each, here + RECORD, RECORD);
-    move_records(s, at, k, each, at, RECORD);
-    put_record(s, here, RECORD, r);
+    make_room(s, at, count, each, k);
+    put_record(s, at + RECORD * k, RECORD, r);
     let all = count + 1;
     put_trailer(s, at + RECORD * all, RECORD as u32, all as u32);
 }
@@ -70,7 +68,7 @@ fn grow(sheet: &mut [u8], len: usize, z: Trailer, r: Record)
     ensures { λ _. ⌜ now (sheet .exit) ≡ «written-over» (now (sheet .entry)) («with-plot» r («sheet-of» (now (sheet .entry)) len z)) ⌝ }
 {
     let first = len - TRAILER - (z.distance as usize);
-    put_sheet(sheet, first, z.count as usize, RECORD, r);
+    put_sheet(sheet, first, z.count as usize, z.length as usize, r);
 }
 
 // Inserts a record that fits into a sheet that was inspected.

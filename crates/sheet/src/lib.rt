@@ -20,10 +20,11 @@ mod rows;
 mod signed;
 mod trailer;
 
-// A plot: its number and its outline.
+// A plot: its number, its outline, and its row in the tariff of fees.
 pub struct Record {
     pub number: u32,
     pub outline: Outline,
+    pub fee_row: u16,
 }
 
 // How many records a sheet has, or the number of the refusal.
@@ -44,12 +45,17 @@ pub enum Written {
     Refused(u32),
 }
 
-// The longest sheet, and the lengths of a trailer and of a record, in bytes.
+// The longest sheet, and the length of a trailer, in bytes.
 pub const LIMIT: usize = 65536;
 
 pub const TRAILER: usize = 16;
 
-pub const RECORD: usize = 24;
+// The lengths of records in bytes: document 01's, which lack the fee row, and those that have it. All that is written has RECORD.
+pub const BASE_RECORD: usize = 24;
+
+pub const FEE_RECORD: usize = 26;
+
+pub const RECORD: usize = FEE_RECORD;
 
 // The refusal numbers of document 01 that this crate adds.
 pub const BAD_LENGTH: u32 = 8;
@@ -81,27 +87,31 @@ pub fn fetch(sheet: &[u8], len: usize, k: u32) -> Fetched
 {
     match check(sheet, len) {
         Checked::Refused(e) => Fetched::Refused(e),
-        Checked::Count(c) => read(sheet, len, c, k),
+        Checked::Count(_) => read(sheet, len, k),
     }
 }
 
-// Record k of a sheet of `len` bytes in which a check has counted `count` records: what `fetch` answers, with no check of the
-// records. Refuses a wrong length, then more records than that length holds, then a k that is not below the count.
-pub fn read(sheet: &[u8], len: usize, count: u32, k: u32) -> Fetched
-    ensures { λ r. ⌜ «record-outcome» r ≡ «read-of» (now (sheet .entry)) len count k ⌝ }
+// Record k of a sheet that was checked: what `fetch` answers, with no check of the records. Refuses a wrong length, wrong marks in the
+// trailer, a wrong distance, then a k that is not below the count. It reads the trailer by itself, so that `frame` has one caller, the
+// check, and is compiled into it.
+pub fn read(sheet: &[u8], len: usize, k: u32) -> Fetched
+    ensures { λ r. ⌜ «record-outcome» r ≡ «read-of» (now (sheet .entry)) len k ⌝ }
 {
     if trailer::is_bad_length(sheet, len) {
         return Fetched::Refused(BAD_LENGTH);
     }
-    let end = len - TRAILER;
-    let distance = RECORD * (count as usize);
-    if end < distance {
-        return Fetched::Refused(BAD_DISTANCE);
+    let z = trailer::read_trailer(sheet, len - TRAILER);
+    match trailer::state(z, len) {
+        Framed::Refused(e) => Fetched::Refused(e),
+        Framed::Trailer(z) => {
+            if z.count <= k {
+                return Fetched::Refused(NO_RECORD);
+            }
+            let each = z.length as usize;
+            let first = len - TRAILER - (z.distance as usize);
+            Fetched::Record(encoding::record_at(sheet, first + each * (k as usize), each))
+        }
     }
-    if count <= k {
-        return Fetched::Refused(NO_RECORD);
-    }
-    Fetched::Record(encoding::record_at(sheet, end - distance + RECORD * (k as usize), RECORD))
 }
 
 // Starts a sheet of no records after `heading` bytes, and answers its length. Refuses a sheet that is too long, then one that

@@ -36,3 +36,11 @@ pub fn to_twos(x: i32, width: usize) -> u32
         wide as u32
     }
 }
+
+// The number of the `wide` bytes of the signed number that v is in `width` bytes.
+pub fn resize(v: u32, width: usize, wide: usize) -> u32
+    requires { ⌜ (width ≤ 4) × (v < 256 ^ width) × (wide ≤ 4) × (mag (signed width v) < 256 ^ wide / 2) ⌝ }
+    ensures { λ r. ⌜ r ≡ twos wide (signed width v) ⌝ }
+{
+    to_twos(to_signed(v, width), wide)
+}

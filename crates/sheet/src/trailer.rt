@@ -10,8 +10,8 @@ use crate::BAD_DISTANCE;
 use crate::BAD_LENGTH;
 use crate::BAD_TRAILER;
 use crate::LIMIT;
-use crate::RECORD;
 use crate::TRAILER;
+use crate::encoding::is_record_length;
 use crate::numbers::pack;
 use crate::numbers::unpack;
 
@@ -40,7 +40,7 @@ const LETTERS: u32 = (b'G' as u32)
     + 256 * ((b'R' as u32) + 256 * ((b'N' as u32) + 256 * (b'D' as u32)));
 
 // The trailer at an index.
-fn read_trailer(s: &[u8], at: usize) -> Trailer
+pub fn read_trailer(s: &[u8], at: usize) -> Trailer
     requires { ⌜ at + «trailer-length» ≤ length (now s) ⌝ }
     ensures { λ r. ⌜ r ≡ «trailer-at» (now (s .entry)) at ⌝ }
 {
@@ -65,14 +65,14 @@ pub fn put_trailer(s: &mut [u8], at: usize, each: u32, count: u32)
 }
 
 // A trailer that is right for a sheet of `len` bytes. Refuses wrong marks, then a wrong distance.
-fn state(z: Trailer, len: usize) -> Framed
+pub fn state(z: Trailer, len: usize) -> Framed
     requires { ⌜ «trailer-length» ≤ len ⌝ }
     ensures { λ r. ⌜ «trailer-outcome» r ≡ stated len z ⌝ }
 {
     let distance = z.distance as usize;
     let count = z.count as usize;
     let length = z.length as usize;
-    if (length != RECORD) | (z.zeros != 0) | (z.letters != LETTERS) {
+    if !is_record_length(length) | (z.zeros != 0) | (z.letters != LETTERS) {
         return Framed::Refused(BAD_TRAILER);
     }
     if (distance != length * count) | (len - TRAILER < distance) {

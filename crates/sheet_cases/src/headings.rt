@@ -1,17 +1,17 @@
 // Inserts in some order keep the heading, and the bytes past the sheet.
+use crate::answers::say_fetched;
+use crate::answers::show;
 use crate::making::tell_added;
 use crate::making::tell_written;
 use crate::plots::plot;
 use crate::words::say;
-use crate::words::say_fetched;
 use crate::words::say_line;
-use crate::words::show;
 
-// A byte that no sheet here has after its heading.
-const PAST: u8 = 170;
+// What a buffer holds before a sheet is put into it.
+pub const PAST: u8 = 170;
 
 // Puts a text at the start of a sheet, and answers the index past it.
-fn put(sheet: &mut [u8], text: &[u8]) -> usize {
+pub fn put(sheet: &mut [u8], text: &[u8]) -> usize {
     let mut i = 0;
     while i < text.len() {
         if sheet.len() <= i {
@@ -24,7 +24,7 @@ fn put(sheet: &mut [u8], text: &[u8]) -> usize {
 }
 
 // How far the bytes from an index on are as they were.
-fn kept(sheet: &[u8], from: usize) -> usize {
+pub fn kept(sheet: &[u8], from: usize) -> usize {
     let mut i = from;
     while i < sheet.len() {
         if sheet[i] != PAST {

@@ -1,6 +1,8 @@
 // Plots put into sheets.
+use crate::narrow::narrow_pair;
 use crate::plots::block;
 use crate::plots::diamond;
+use crate::plots::fee_row;
 use crate::plots::plot;
 use crate::plots::wide;
 use crate::words::say_line;
@@ -34,28 +36,58 @@ pub fn tell_written(answer: Written, len: usize) -> usize {
     }
 }
 
+// A plot with the fee row of its number.
+fn with_fee(number: u32, outline: Outline) -> Record {
+    let fee = fee_row(number);
+    Record {
+        number,
+        outline,
+        fee_row: fee,
+    }
+}
+
 // Inserts a plot, and answers the length of the sheet.
 pub fn add(sheet: &mut [u8], len: usize, number: u32, outline: Outline) -> usize {
-    let r = Record { number, outline };
-    written(sheet::insert(sheet, len, r), len)
+    written(sheet::insert(sheet, len, with_fee(number, outline)), len)
 }
 
 // The same, with what `insert` answers written out.
 pub fn tell_added(sheet: &mut [u8], len: usize, number: u32, outline: Outline) -> usize {
-    let r = Record { number, outline };
-    tell_written(sheet::insert(sheet, len, r), len)
+    tell_written(sheet::insert(sheet, len, with_fee(number, outline)), len)
 }
 
-// Document 01's sheet.
+// Document 01's two plots.
 pub fn example(sheet: &mut [u8]) -> usize {
     let empty = written(sheet::start(sheet, 0), 0);
     let one = add(sheet, empty, 7, block());
     add(sheet, one, 11407, diamond())
 }
 
-// A sheet of two plots: number 255 in the corner of the map, up to its east and north edges, and number 511.
-pub fn pair(sheet: &mut [u8]) -> usize {
+// A sheet of two plots in 68 bytes: number 255 in the corner of the map, up to its east and north edges, and number 511.
+fn wide_pair(sheet: &mut [u8]) {
     let empty = written(sheet::start(sheet, 0), 0);
     let one = add(sheet, empty, 511, plot(511));
-    add(sheet, one, 255, wide(15439, 14702))
+    add(sheet, one, 255, wide(15439, 14702));
+}
+
+// The lengths of the sheet of these two plots, by 24 and by 26 bytes a record.
+pub const NARROW: usize = 64;
+
+pub const WIDE: usize = 68;
+
+// Makes that of this length.
+pub fn pair(sheet: &mut [u8], len: usize) {
+    if len == NARROW {
+        narrow_pair(sheet);
+    } else {
+        wide_pair(sheet);
+    }
+}
+
+// The index so far before the end of a sheet.
+pub fn before_end(len: usize, back: usize) -> usize {
+    if len < back {
+        return 0;
+    }
+    len - back
 }

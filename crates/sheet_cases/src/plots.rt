@@ -1,4 +1,5 @@
-// Plots: document 01's two, and such as tell every field apart: their eight sides differ, and so do i and j.
+// Plots: document 01's two, and such as tell every field apart: their eight sides differ, and so do i and j, and their fee row is none of
+// these.
 use outline::Outline;
 
 // Record 7 of document 01.
@@ -72,6 +73,11 @@ pub fn plot(number: u32) -> Outline {
         n6: 4 + number % 7 * 48,
         n7: 6 + number % 9 * 16,
     }
+}
+
+// The fee row of the plot with a number: above every side, and no coordinate's bytes.
+pub fn fee_row(number: u32) -> u16 {
+    (40000 + number % 9973 * 7 % 9973) as u16
 }
 
 // An outline that does not close, at a start.

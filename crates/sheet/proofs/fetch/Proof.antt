@@ -10,8 +10,8 @@ use Rattle.sheet.proofs.fetch.Statement.{statement}
 use Rattle.sheet.proofs.fetch.Tie as tie
 
 -- the count that the check answers
-counted : (c : tie.After-c) → let a = c .before .before .before .before .args in checked (a .sheet .now) (a .len) ≡ accepted (c .c .given .0 .0)
-counted c = sym (c .before .before .check .ensures) ∙ ap count-outcome (c .c .given .1)
+counted : (c : tie.After-enum-told) → let a = c .before .before .before .before .args in checked (a .sheet .now) (a .len) ≡ accepted (c .enum-told .given .0 .0)
+counted c = sym (c .before .before .check .ensures) ∙ ap count-outcome (c .enum-told .given .1)
 
 returns : tie.Need-returns
 returns c =
@@ -21,9 +21,9 @@ returns c =
 
 returns-2 : tie.Need-returns-2
 returns-2 c =
-    let at-c = c .before .before in
+    let at-c = c .before in
     let a = at-c .before .before .before .before .args in
-    c .read .ensures ∙ read-checked (a .sheet .now) (a .len) _ (a .k) (counted at-c)
+    c .read .ensures ∙ read-checked (a .sheet .now) (a .len) (a .k) _ (counted at-c)
 
 pub fetch-spec : {M : Type 1} → statement M
 fetch-spec =

@@ -19,7 +19,7 @@ returns c =
     let told = put .before .before .before .before in
     let case = told .before in
     gives (case .before .before .if1 .taken) (ap record-outcome (case .f .given .1))
-    (ap (λ (q : List ℤ × List ℕ). (case .f .given .0 .0 .number, q .0, q .1)) (put .put-outline .ensures))
+    (ap (λ (q : List ℤ × List ℕ). (case .f .given .0 .0 .number, q .0, q .1, case .f .given .0 .0 .«fee_row»)) (put .put-outline .ensures))
 
 returns-2 : tie.Need-returns-2
 returns-2 c = let case = c .before in keeps (case .before .before .if1 .taken) (ap record-outcome (case .f2 .given .1))

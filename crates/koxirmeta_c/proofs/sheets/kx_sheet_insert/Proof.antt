@@ -20,7 +20,7 @@ returns c =
     let operand = made .before .before in
     let test = operand .before in
     let a = test .before .before .before .args in
-    let numbered : Outline → Record = λ o. record { number = a .number; outline = o } in
+    let numbered : Outline → Record = λ o. record { number = a .number; outline = o; «fee_row» = a .fee-row } in
     let e = operand .outline-in .ensures in (
       right (test .if1 .taken) (made .insert .ensures .0 ∙ ap (λ o. inserted (a .sheet .now) (a .len) (numbered o)) e) (c .give-length .ensures),
       rw (test .if1 .taken) (made .insert .ensures .1 ∙ ap (λ o. after-insert (a .sheet .now) (a .len) (numbered o)) e),

@@ -19,7 +19,7 @@ start-j c = search needs
 
 -- the start of the function, after the row's start
 abbrev start1 : tie.After-put-start → tie.Start
-start1 c = c .before .before .before .before .before .before
+start1 c = c .before .before .before .before .before .before .before
 
 -- what is still to be put before the row's start and after it
 to-put0 : (c : tie.Start) → let a = c .args in
@@ -36,7 +36,7 @@ to-put1 c =
 
 put-start-requires : tie.Need-put-start-requires
 put-start-requires c κs =
-    let e = c .before .before .before .before .before in
+    let e = c .before .before .before .before .before .before in
     let a = e .args in
     rw (toZ-ofZ (start-i e), toZ-ofZ (start-j e)) (to-put-room (row-start (a .r .number) (a .r .outline .i) (a .r .outline .j)) _ (to-put0 e))
 
@@ -47,4 +47,4 @@ returns : tie.Need-returns
 returns c = let at-numbers = c .before .before in to-put1 (at-numbers .before .before .before .before .before) .rest (at-numbers .put-numbers .ensures)
 
 pub put-row-spec : {M : Type 1} → statement M
-put-row-spec = tie.close (tie.spec put-start-requires (λ c. search needs) put-numbers-requires (λ c. put-length (returns c)) returns)
+put-row-spec = tie.close (tie.spec (λ c. search needs) put-start-requires (λ c. search needs) put-numbers-requires (λ c. put-length (returns c)) returns)

@@ -35,12 +35,12 @@ many : (c : tie.At-loop Inv-loop μ-loop) → length (rs c) ≡ c .before .befor
 many c = let a = c .before .before .before .args in plots-counted (a .sheet .now) (a .len) (a .c) (c .before .before .before .pre .0)
 
 answer : (c : tie.In-loop Inv-loop μ-loop) → let a = c .before .before .before .before .args in
-    read (a .sheet .now) (a .len) (a .c) (c .before .loop .k) ≡ accepted (plot (rs (c .before)) (c .before .loop .k))
+    read (a .sheet .now) (a .len) (c .before .loop .k) ≡ accepted (plot (rs (c .before)) (c .before .loop .k))
 answer c =
     let e = c .before .before .before .before in
     let a = e .args in
     let k = c .before .loop .k in
-    read-checked (a .sheet .now) (a .len) (a .c) k (e .pre .0) ∙ plot-fetched (a .sheet .now) (a .len) (a .c) k (e .pre .0) (c .loop-test .taken)
+    read-checked (a .sheet .now) (a .len) k (a .c) (e .pre .0) ∙ plot-fetched (a .sheet .now) (a .len) (a .c) k (e .pre .0) (c .loop-test .taken)
 
 -- no record of a checked sheet is refused
 not-refused : (c : tie.After-enum-told Inv-loop μ-loop) → ⊥

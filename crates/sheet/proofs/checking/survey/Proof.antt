@@ -57,7 +57,7 @@ survey-spec =
     Inv-loop
     μ-loop
     (λ c. (omega arith, refl))
-    (λ c κs. omega (arith, within c))
+    (λ c κs. (omega (arith, within c), start-of (c .before) .pre .1))
     (λ c. search needs)
     returns
     (λ c. search needs)

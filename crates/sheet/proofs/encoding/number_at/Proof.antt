@@ -19,4 +19,4 @@ returns c =
     ∙ number-decoded _ (a .s .now) (a .at) (a .each) (omega (arith, every-field (a .each))) (number-within (a .each))
 
 pub number-at-spec : {M : Type 1} → statement M
-number-at-spec = tie.close (tie.spec (λ c κs. search needs) (λ c. search needs) read-number-requires returns)
+number-at-spec = tie.close (tie.spec (λ c κs. c .before .pre .1) (λ c. search needs) read-number-requires returns)

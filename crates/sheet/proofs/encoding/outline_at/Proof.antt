@@ -18,7 +18,7 @@ bytes c i = omega (arith, c .before .before .before .shared-slice-known .given i
 unpack-requires : tie.Need-unpack-requires
 unpack-requires c κs =
     let s = start-of c in
-    fields-within (s .args .each) (s .args .s .now) (s .args .at) _ (c .before .before .layout-of .ensures) (s .pre)
+    fields-within (s .args .each) (s .args .s .now) (s .args .at) _ (c .before .before .layout-of .ensures) (s .pre .0)
 
 outline-of-requires : tie.Need-outline-of-requires
 outline-of-requires c κs =
@@ -37,7 +37,7 @@ pub outline-at-spec : {M : Type 1} → statement M
 outline-at-spec =
     tie.close
     (tie.spec
-    (λ c κs. search needs)
+    (λ c κs. c .before .pre .1)
     (λ c. search needs)
     (λ c. search needs)
     unpack-requires

@@ -1,13 +1,12 @@
 -- `admit` meets its contract. Assumes nothing.
-use mathlib.Core.Path.{_≡_, sym, ap, _∙_}
-use Prim.Native.Nat.{ℕ}
+use mathlib.Core.Path.{_≡_, sym, ap}
 use native.Mathlib.Omega.{arith}
 use borrow.Author.Needs.{needs}
 use Rattle.octagon.specs.Outcome.{accepted}
 use Rattle.sheet.specs.Order.{present}
-use Rattle.sheet.specs.Sheets.{Sheet, plots-from, first, sheet-of}
+use Rattle.sheet.specs.Sheets.{Sheet, sheet-of}
 use Rattle.sheet.proofs.Checks.{Good, inspected-good}
-use Rattle.sheet.proofs.Inserts.{admit-number, admit-room, admit-good, grown-length}
+use Rattle.sheet.proofs.Inserts.{admit-number, admit-room, admit-good, next-length-is}
 use Rattle.sheet.proofs.inserting.admit.Statement.{statement}
 use Rattle.sheet.proofs.inserting.admit.Tie as tie
 
@@ -20,14 +19,10 @@ good c = let a = c .args in inspected-good (a .sheet .now) (a .len) (a .z) (c .p
 
 -- the start, from the search for the number, and what was found
 abbrev start-of : tie.After-has-number → tie.Start
-start-of c = c .before .before .before .before
+start-of c = c .before .before .before .before .before
 
 found : (c : tie.After-has-number) → let s = start-of c in c .has-number .result ≡ present (s .args .r .number) (says s .plots)
-found c =
-    let s = start-of c in
-    let a = s .args in
-    c .has-number .ensures
-    ∙ ap (λ (n : ℕ). present (a .r .number) (plots-from n (a .sheet .now) (first (a .len) (a .z .distance)) (a .z .count))) (sym (good s .framing .known))
+found c = c .has-number .ensures
 
 returns : tie.Need-returns
 returns c = let s = start-of (c .before) in rw (admit-number (s .args .sheet .now) (s .args .r) (says s) (rw (found (c .before)) at (c .if1 .taken)))
@@ -37,14 +32,14 @@ returns-2 c =
     let at-else = c .before in
     let s = start-of (at-else .before) in
     let a = s .args in
-    rw (admit-room (a .sheet .now) (a .r) (says s) (rw (found (at-else .before)) at (at-else .if1 .left)) (rw (grown-length (a .sheet .now) (a .len) (a .z) (a .r) (good s)) (c .if2 .taken)))
+    rw (admit-room (a .sheet .now) (a .r) (says s) (rw (found (at-else .before)) at (at-else .if1 .left)) (rw (next-length-is (a .sheet .now) (a .len) (a .z) (a .r) (good s)) (c .if2 .taken)))
 
 returns-3 : tie.Need-returns-3
 returns-3 c =
     let at-else = c .before in
     let s = start-of (at-else .before) in
     let a = s .args in
-    let l = grown-length (a .sheet .now) (a .len) (a .z) (a .r) (good s) in
+    let l = next-length-is (a .sheet .now) (a .len) (a .z) (a .r) (good s) in
     rw (admit-good (a .sheet .now) (a .r) (says s) (rw (found (at-else .before)) at (at-else .if1 .left)) (rw l (c .if2 .left))) (ap accepted (sym l))
 
 pub admit-spec : {M : Type 1} → statement M
@@ -55,7 +50,8 @@ admit-spec =
     (λ c. search needs)
     (λ c. omega (arith, good (c .before .before) .framing))
     (λ c. search needs)
-    (λ c κs. omega (arith, good (c .before .before .before) .framing))
+    (λ c. search needs)
+    (λ c κs. let f = good (c .before .before .before .before) .framing in (omega (arith, f), f .known))
     returns
     (λ c. search needs)
     (λ c. search needs)

@@ -47,7 +47,7 @@ has-number-spec =
     Inv-loop
     μ-loop
     (λ c. (omega arith, refl))
-    (λ c κs. omega (arith, within c))
+    (λ c κs. (omega (arith, within c), c .before .before .before .pre .1))
     returns
     (λ c. omega (arith, within (c .before .before)))
     (λ c. omega arith)

@@ -56,7 +56,7 @@ rank-of-spec =
     Inv-loop
     μ-loop
     loop-holds
-    (λ c κs. omega (arith, within c))
+    (λ c κs. (omega (arith, within c), c .before .before .before .pre .1))
     returns
     (λ c. omega (arith, within (c .before .before)))
     (λ c. omega arith)

@@ -69,7 +69,7 @@ read-as-was c =
     let s = start-of (c .before) in
     let a = s .args in
     let t = turn c in
-    moved-part (a .wide) (s .pre .1 .0) (a .s .now) (l .s) (a .each) (l .p) (l .q) (a .count - l .left) (l .p - a .each) (l .q - a .wide) (t .read-to) (t .put-to) (t .above) (t .room) (l .inv .4)
+    moved-part (a .wide) (s .pre .1 .1) (a .s .now) (l .s) (a .each) (l .p) (l .q) (a .count - l .left) (l .p - a .each) (l .q - a .wide) (t .read-to) (t .put-to) (t .above) (t .room) (l .inv .4)
 
 fitting : (c : tie.In-loop Inv-loop μ-loop) → let l = c .before .loop in
     let a = start-of (c .before) .args in
@@ -79,19 +79,20 @@ fitting c =
     let s = start-of (c .before) in
     let a = s .args in
     let e : a .from + a .each * (l .left - 1) ≡ l .p - a .each = omega (arith, mul-pred (a .each) (l .left) (c .loop-test .taken), l .inv .1) in
-    rw (read-as-was c) (rw e at (all-plot (a .each) (a .s .now) (a .from) (a .count) (l .left - 1) (omega (arith, l .inv .0, c .loop-test .taken)) (s .pre .1 .1)))
+    rw (read-as-was c) (rw e at (all-plot (a .each) (a .s .now) (a .from) (a .count) (l .left - 1) (omega (arith, l .inv .0, c .loop-test .taken)) (s .pre .1 .2)))
 
-put-record-requires : tie.Need-put-record-requires Inv-loop μ-loop
-put-record-requires c κs =
-    let at-turn = c .before .before .before in
+copy-record-requires : tie.Need-copy-record-requires Inv-loop μ-loop
+copy-record-requires c κs =
+    let at-turn = c .before in
     let l = at-turn .before .loop in
+    let s = start-of (at-turn .before) in
     let t = turn at-turn in
-    (omega (arith, l .inv .3), rw (c .record-at .ensures) (fitting at-turn))
+    ((omega (arith, l .inv .3), omega (arith, l .inv .3)), (s .pre .1 .0, s .pre .1 .1, fitting at-turn))
 
 loop-again : tie.Need-loop-again Inv-loop μ-loop
 loop-again c =
-    let at-put = c .before .before in
-    let at-turn = at-put .before .before .before .before in
+    let at-copy = c .before .before in
+    let at-turn = at-copy .before .before in
     let l = at-turn .before .loop in
     let s = start-of (at-turn .before) in
     let a = s .args in
@@ -102,10 +103,10 @@ loop-again c =
       omega (arith, l .inv .0),
       omega (arith, l .inv .1),
       omega (arith, l .inv .2),
-      omega (arith, at-put .put-record .kept .0, l .inv .3),
-      at-put .put-record .ensures
-          ∙ rw n (moved-more (a .wide) (s .pre .1 .0) (a .s .now) (l .s) (a .each) (l .p) (l .q) (a .count - l .left) (l .p - a .each) (l .q - a .wide) (t .read-to) (t .put-to) (t .above) (t .room) (l .inv .4)
-          _ (at-put .before .record-at .ensures)),
+      omega (arith, at-copy .copy-record .kept .0, l .inv .3),
+      at-copy .copy-record .ensures
+          ∙ rw n (moved-more (a .wide) (s .pre .1 .1) (a .s .now) (l .s) (a .each) (l .p) (l .q) (a .count - l .left) (l .p - a .each) (l .q - a .wide) (t .read-to) (t .put-to) (t .above) (t .room) (l .inv .4)
+          _ refl),
     )
 
 -- none is left
@@ -137,8 +138,7 @@ recode-spec =
     (λ c. let t = turn c in omega arith)
     (λ c. let t = turn c in omega arith)
     (λ c. omega arith)
-    (λ c κs. let t = turn (c .before .before) in omega (arith, c .before .before .before .loop .inv .3))
-    put-record-requires
+    copy-record-requires
     (λ c. omega arith)
     loop-again
     (λ c. c .before .loop .inv .3)

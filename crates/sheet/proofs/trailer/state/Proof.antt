@@ -8,15 +8,15 @@ use Rattle.sheet.proofs.trailer.state.Tie as tie
 
 returns : tie.Need-returns
 unfolding stated
-returns c = rw (c .if1 .taken)
+returns c = let t = c .before .before .before in rw (rw (t .is-record-length .ensures) at (c .if1 .taken))
 
 returns-2 : tie.Need-returns-2
 unfolding stated
-returns-2 c = rw (c .before .if1 .left, c .if2 .taken)
+returns-2 c = let t = c .before .before .before .before in rw (rw (t .is-record-length .ensures) at (c .before .if1 .left), c .if2 .taken)
 
 returns-3 : tie.Need-returns-3
 unfolding stated
-returns-3 c = rw (c .before .if1 .left, c .if2 .left)
+returns-3 c = let t = c .before .before .before .before in rw (rw (t .is-record-length .ensures) at (c .before .if1 .left), c .if2 .left)
 
 pub state-spec : {M : Type 1} → statement M
 state-spec =
@@ -25,9 +25,10 @@ state-spec =
     (λ c. search needs)
     (λ c. search needs)
     (λ c. search needs)
+    (λ c κs. search needs)
     returns
     (λ c.
-    let z = c .before .before .before .before .before .before .args .z in
+    let z = c .before .before .before .before .before .before .before .args .z in
     record { fits = omega (arith, mul-le-mul {n₁ = z .length} {m₁ = z .count} {n₂ = 4294967295} {m₂ = 4294967295} (omega arith) (omega arith)) })
     (λ c. search needs)
     returns-2

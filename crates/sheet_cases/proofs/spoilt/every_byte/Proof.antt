@@ -5,10 +5,10 @@ use Rattle.sheet_cases.proofs.spoilt.every_byte.Statement.{statement}
 use Rattle.sheet_cases.proofs.spoilt.every_byte.Tie as tie
 
 abbrev Inv-loop : tie.InvT-loop
-Inv-loop at₀ at = Unit {0}
+Inv-loop len at₀ at = Unit {0}
 
 abbrev μ-loop : tie.MeasureT-loop
-μ-loop at₀ at = 64 - at
+μ-loop len at₀ at = len - at
 
 pub every-byte-spec : {M : Type 1} → statement M
 every-byte-spec =

@@ -1,0 +1,16 @@
+/* What the parts of the example in C share. */
+#ifndef EXAMPLE_H
+#define EXAMPLE_H
+#include "koxirmeta.h"
+
+static const int32_t ORIGIN[8] = {0, 0, 0, 0, 0, 0, 0, 0};
+static const uint32_t K13[8] = {0, 1, 0, 1, 0, 1, 0, 1};
+static const int32_t UNEVEN_START[2] = {-4, -5};
+static const uint32_t UNEVEN_SIDES[8] = {3, 1, 14, 2, 5, 4, 6, 7};
+
+/* Sheets, and the constants of koxirmeta.h (example_sheets.c). */
+void sheets(void);
+void base_sheets(void);
+void limits(void);
+
+#endif

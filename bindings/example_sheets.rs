@@ -1,0 +1,101 @@
+//! Sheets from Rust: plots with fee rows, a sheet of document 01's records, which have none, and what is answered at each limit.
+use crate::koxirmeta as kx;
+use crate::koxirmeta::{Plot, Refusal};
+use crate::{K13, ORIGIN, UNEVEN, number, words};
+
+const DIAMOND: Plot = Plot { number: 11407, start: [0, 0], sides: K13, fee_row: 515 };
+const FIELD: Plot = Plot { number: 7, start: [2, -1], sides: [3, 0, 1, 0, 3, 0, 1, 0], fee_row: 65535 };
+
+fn listing(sheet: &[u8], len: usize) {
+    let mut text = vec![0; kx::TEXT];
+    let listed = kx::list(sheet, len, text.as_mut_slice().try_into().unwrap()).unwrap();
+    print!("{}", String::from_utf8_lossy(listed));
+}
+
+fn show_record(what: &str, answer: Result<Plot, Refusal>) {
+    match answer {
+        Err(why) => println!("{what}: {}", why.number()),
+        Ok(p) => println!("{what}: 0 number {} start {} sides {} fee row {}", p.number, words(&p.start), words(&p.sides), p.fee_row),
+    }
+}
+
+fn show_bytes(sheet: &[u8]) {
+    println!("bytes {}", sheet.iter().map(|byte| format!("{byte:02x}")).collect::<String>());
+}
+
+pub fn sheets() {
+    let mut sheet = [0u8; 102];
+    sheet[..5].copy_from_slice(b"plots");
+    let mut len = kx::sheet_start(&mut sheet, 5).unwrap();
+    println!("start: 0 length {len}");
+    for plot in [DIAMOND, UNEVEN, FIELD] {
+        len = kx::sheet_insert(&mut sheet, len, &plot).unwrap();
+        println!("insert {}: 0 length {len}", plot.number);
+    }
+    println!("insert 7 again: {}", number(&kx::sheet_insert(&mut sheet, len, &FIELD)));
+    println!("insert 8, no room: {}", number(&kx::sheet_insert(&mut sheet, len, &Plot { number: 8, ..FIELD })));
+    println!("check: 0 count {}", kx::sheet_check(&sheet, len).unwrap());
+    listing(&sheet, len);
+    for k in 1..4 {
+        show_record(&format!("record {k}"), kx::sheet_fetch(&sheet, len, k));
+    }
+    show_record("read 0", kx::sheet_read(&sheet, len, 0));
+    show_record("read 3", kx::sheet_read(&sheet, len, 3));
+    sheet[5] = 0;
+    show_record("record 1 where number 7 is 0", kx::sheet_fetch(&sheet, len, 1));
+    show_record("read 1 where number 7 is 0", kx::sheet_read(&sheet, len, 1));
+    sheet[len - 1] = b'E';
+    listing(&sheet, len);
+    show_record("read 1 where letters are wrong", kx::sheet_read(&sheet, len, 1));
+}
+
+/// A heading and document 01's plots 7 and 11407, in records of [`kx::BASE_RECORD`] bytes.
+const BASE: &[u8; 67] = b"old\
+    \x07\0\0\0\x02\0\xff\xff\x03\0\0\0\x01\0\0\0\x03\0\0\0\x01\0\0\0\
+    \x8f\x2c\0\0\0\0\0\0\0\0\x01\0\0\0\x01\0\0\0\x01\0\0\0\x01\0\
+    \x30\0\0\0\x02\0\0\0\x18\0\0\0GRND";
+
+/// One plot more: the whole sheet is written anew, in the same buffer.
+pub fn base_sheets() {
+    let mut sheet = [0xeeu8; 100];
+    let (len, plot) = (BASE.len(), Plot { number: 258, ..UNEVEN });
+    sheet[..len].copy_from_slice(BASE);
+    println!("check: 0 count {}", kx::sheet_check(&sheet, len).unwrap());
+    listing(&sheet, len);
+    show_record("record 0", kx::sheet_fetch(&sheet, len, 0));
+    show_record("read 1", kx::sheet_read(&sheet, len, 1));
+    println!("insert 258, room for 24 more: {}", number(&kx::sheet_insert(&mut sheet[..len + kx::BASE_RECORD], len, &plot)));
+    println!("insert 258, one byte short: {}", number(&kx::sheet_insert(&mut sheet[..96], len, &plot)));
+    show_bytes(&sheet);
+    let len = kx::sheet_insert(&mut sheet[..97], len, &plot).unwrap();
+    println!("insert 258: 0 length {len}");
+    show_bytes(&sheet);
+    listing(&sheet, len);
+    show_record("record 1", kx::sheet_fetch(&sheet, len, 1));
+}
+
+/// The constants: what is answered at a limit, and one past it.
+pub fn limits() {
+    let mut sheet = vec![0; kx::SHEET_LIMIT];
+    let (map, folds, full) = (kx::MAP_LIMIT, kx::FOLD_LIMIT, kx::SHEET_LIMIT - kx::TRAILER);
+    let cell = |x| number(&kx::to_octagon(&[x, 0], &[0; 8]));
+    println!("map limit {map}: {}, one more: {}", cell(map), cell(map + 1));
+    let fold = |n| number(&kx::dilate_n(&ORIGIN, &ORIGIN, n));
+    println!("fold limit {folds}: {}, one more: {}", fold(folds), fold(folds + 1));
+    let len = kx::sheet_start(&mut sheet, full).unwrap();
+    println!("sheet limit {}: 0, one more: {}, length {len}", kx::SHEET_LIMIT, number(&kx::sheet_start(&mut sheet, full + 1)));
+    let len = kx::sheet_start(&mut sheet, 0).unwrap();
+    let check = |n| number(&kx::sheet_check(&sheet, n));
+    println!("trailer {len}: {}, one less: {}", check(kx::TRAILER), check(kx::TRAILER - 1));
+    let (short, long) = (kx::BASE_RECORD, kx::RECORD);
+    let mut named = |each: usize| {
+        sheet[len - 8] = each as u8;
+        number(&kx::sheet_check(&sheet, len))
+    };
+    println!("record lengths {short} {long}: {} {}, one more each: {} {}", named(short), named(long), named(short + 1), named(long + 1));
+    named(long);
+    let (two, plot) = (kx::TRAILER + long, Plot { number: 1, fee_row: 1, ..Plot::default() });
+    let grown = kx::sheet_insert(&mut sheet[..two], len, &plot).unwrap();
+    let next = kx::sheet_insert(&mut sheet[..two + long - 1], grown, &Plot { number: 2, ..plot });
+    println!("record {long}: 0, one less: {}, length {grown}", number(&next));
+}
