@@ -119,7 +119,7 @@ insert-accepted s len r n b v q =
     let t = insertion-taken s len r (m .0) (m .1) in
     (t .trailer .count, left-there s len r (t .trailer) b v (t .octagon) (t .is-inspected) (t .admission) (m .0) n (t .sheet-is) (m .1) (m .2))
 
--- "Nothing lost in the rewriting": what is fetched after an accepted insert is the old records and the new one, and no others, for sheets
+-- nothing is lost in the rewriting: what is fetched after an accepted insert is the old records and the new one, and no others, for sheets
 -- of either record length
 pub nothing-lost : (s : List ℕ) (len : ℕ) (r : Record) (n : ℕ) → AreBytes s → Sized r → inserted s len r ≡ accepted n
     → (q : Record) → IsFetched (after-insert s len r) n q ↔ (IsFetched s len q ⊎ (q ≡ r))

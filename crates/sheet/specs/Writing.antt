@@ -82,7 +82,7 @@ inserted s len r = then (insertion s len r) (λ z. accepted (written-length z))
 unfoldable pub after-insert : List ℕ → ℕ → Record → List ℕ
 after-insert s len r = left s (insertion s len r) (written-over s)
 
--- how long a sheet of len bytes and c records, of either length, is with one more: "heading + 26 × (count + 1) + 16"
+-- how long a sheet of len bytes and c records, of either length, is with one more: every record has 26 bytes
 abbrev pub grown-length : List ℕ → ℕ → ℕ → ℕ
 grown-length s len c = stated-heading s len + record-length * (c + 1) + trailer-length
 
