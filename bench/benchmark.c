@@ -1,12 +1,21 @@
-/* Times the exported calls beside plain C, in one run, on the same inputs: those on octagons and tapes here, those on sheets in
+/* Times the exported calls beside plain C, in one run, on the same inputs: those on octagons, tapes and trees here, those on sheets in
  * benchmark_sheets.c. */
 #include "benchmark.h"
+#include <stdlib.h>
+#include <string.h>
 #include <time.h>
 
 enum { INPUTS = 512, TURNS = 4000, POINTS = 1000 };
 
+/* A tree: its centre cell, and its radius. */
+typedef struct {
+    int32_t x, y;
+    uint32_t radius;
+} tree;
+
 static int32_t plots[INPUTS][8], elements[INPUTS][8];
 static double tape[2 * POINTS];
+static tree trees[INPUTS];
 volatile uint32_t sink;
 
 int32_t from(int32_t low, int32_t high) {
@@ -43,11 +52,25 @@ static void fill_tape(void) {
         tape[i] = from(-1000000000, 1000000000) * 4e-6;
 }
 
+/* Trees of any radius up to the limit, anywhere on the map. Both calls have to accept each, with the same bounds. */
+static void fill_trees(void) {
+    for (int i = 0; i < INPUTS; i++) {
+        int32_t radius = from(0, RADIUS_LIMIT), room = LIMIT - radius, x = from(-room, room), y = from(-room, room), a[8], b[8];
+        tree t = {x, y, (uint32_t)radius};
+        if (kx_clearance(t.x, t.y, t.radius, a, 8) || plain_clearance(t.x, t.y, t.radius, b, 8) || memcmp(a, b, sizeof a)) {
+            printf("tree %d %d, radius %d: the proved call and plain C differ\n", x, y, radius);
+            exit(1);
+        }
+        trees[i] = t;
+    }
+}
+
 typedef uint32_t of_one(const int32_t *, size_t, int32_t *, size_t);
 typedef uint32_t of_two(const int32_t *, size_t, const int32_t *, size_t, int32_t *, size_t);
 typedef uint32_t counter(const int32_t *, size_t, uint32_t *);
 typedef uint32_t splitter(const int32_t *, size_t, int32_t *, size_t, uint32_t *, size_t);
 typedef uint32_t encloser(const double *, size_t, int32_t *, size_t);
+typedef uint32_t clearer(int32_t, int32_t, uint32_t, int32_t *, size_t);
 
 static double time_one(of_one *f) {
     int32_t out[8] = {0};
@@ -95,12 +118,23 @@ static double time_enclose(encloser *f) {
     return now() - at;
 }
 
+static double time_clearance(clearer *f) {
+    int32_t out[8] = {0};
+    uint32_t sum = 0;
+    double at = now();
+    for (int i = 0; i < INPUTS; i++)
+        sum += f(trees[i].x, trees[i].y, trees[i].radius, out, 8) + (uint32_t)out[i % 8];
+    sink = sum;
+    return (now() - at) / INPUTS;
+}
+
 int main(void) {
     for (int i = 0; i < INPUTS; i++) {
         bounds(plots[i], 2000);
         bounds(elements[i], 40);
     }
     fill_tape();
+    fill_trees();
     printf("%-12s %12s %12s %8s\n", "ns per call", "proved", "plain C", "ratio");
     COMPARE("normalise", TURNS, time_one, kx_normalise, plain_normalise);
     COMPARE("count", TURNS, time_count, kx_count, plain_count);
@@ -110,6 +144,7 @@ int main(void) {
     COMPARE("closing", TURNS, time_two, kx_closing, plain_closing);
     COMPARE("split", TURNS, time_split, kx_decompose, plain_decompose);
     COMPARE("enclose", TURNS, time_enclose, kx_enclose, plain_enclose);
+    COMPARE("clearance", TURNS, time_clearance, kx_clearance, plain_clearance);
     benchmark_sheets();
     return 0;
 }

@@ -16,6 +16,8 @@ void random_outline(int32_t start[2], uint32_t n[8], uint32_t size);
 void random_plot(plot *p);
 /* A tape whose points are mostly on the map, about half of them at or next to the edges of cells. */
 void random_tape(double *tape, size_t len);
+/* A tree, mostly on the map and often at its edge (input_trees.c). */
+void random_tree(tree *t);
 
 /* ---- sheets (input_sheets.c) */
 
@@ -30,7 +32,7 @@ void spoil_bytes(uint8_t *s, size_t len);
 
 /* ---- what was compared (compare.c) */
 
-extern uint64_t octagons_by_cells, pairs_by_cells, outlines_by_cells, splits_by_cells, listings, widened;
+extern uint64_t octagons_by_cells, pairs_by_cells, outlines_by_cells, splits_by_cells, trees_by_cells, listings, widened;
 /* Writes the difference and ends the program. */
 void differ(const char *call, const int32_t *p, const int32_t *f, uint32_t got, uint32_t want);
 void count_answer(uint32_t number);
@@ -58,7 +60,7 @@ void compare_start(size_t room, size_t heading, size_t *len);
 uint32_t compare_insert(const plot *p, size_t room, size_t *len);
 
 /* ---- the parts (compare_octagons.c, compare_pairs.c, compare_lengths.c, compare_random_sheets.c, compare_full_sheets.c,
- * compare_tapes.c) */
+ * compare_tapes.c, compare_trees.c) */
 
 void compare_one(const int32_t c[8], uint64_t round);
 void compare_two(const int32_t p[8], const int32_t f[8]);
@@ -74,5 +76,9 @@ void compare_full(void);
 void compare_tape(void);
 /* Tapes of up to a million numbers. */
 void compare_long_tapes(void);
+/* A random tree, and sometimes a slice of the wrong length. */
+void compare_tree(void);
+/* Trees of every radius, at and next to each edge of the map. */
+void compare_radii(void);
 
 #endif

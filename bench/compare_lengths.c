@@ -3,7 +3,7 @@
 #include <string.h>
 
 /* How many calls compare_lengths makes. */
-enum { CALLS = 26 };
+enum { CALLS = 28 };
 
 void compare_lengths(const int32_t p[8], const int32_t f[8]) {
     int32_t out[9], start[3] = {1, 2, 3};
@@ -23,6 +23,7 @@ void compare_lengths(const int32_t p[8], const int32_t f[8]) {
     right &= kx_sheet_insert(lent, 64, 64, 1, start, u, n, 8, 7, &grown) == KX_WRONG_LENGTH && kx_sheet_insert(lent, 64, 64, 1, start, 2, n, w, 7, &grown) == KX_WRONG_LENGTH;
     right &= kx_decompose(p, w, start, 2, n, 13) == KX_WRONG_LENGTH && kx_decompose(p, 8, start, u, n, 13) == KX_WRONG_LENGTH && kx_decompose(p, 8, start, 2, n, any() % 2 ? 12 : 14) == KX_WRONG_LENGTH;
     right &= kx_enclose(metres, 2, out, w) == KX_WRONG_LENGTH && kx_enclose(metres, 3, out, w) == KX_WRONG_LENGTH;
+    right &= kx_clearance(p[0], p[1], 3, out, w) == KX_WRONG_LENGTH && kx_clearance(p[0], p[1], 70000, out, 0) == KX_WRONG_LENGTH;
     for (int k = 0; k < 8; k++)
         right &= out[k] == -1 - k;
     for (int k = 0; k < 14; k++)
@@ -44,17 +45,19 @@ void compare_constants(void) {
     uint32_t count = 77;
     size_t len = 5, grown = 5;
     /* a line: thirteen words of at most twenty digits, each with one byte after it; a text: a line for each record, and two more */
-    const int named[] = {KX_MAP_LIMIT, KX_FOLD_LIMIT, KX_SHEET_LIMIT, KX_RECORD, KX_FEE_RECORD, KX_BASE_RECORD, KX_TRAILER, KX_BOUNDS, KX_START, KX_SIDES, KX_COUNTS, KX_PLACE, KX_LINE, KX_TEXT};
-    const int wanted[] = {LIMIT, FOLDS, SHEET, RECORD, 26, BASE_RECORD, TRAILER, 8, 2, 8, PIECES, 2, 13 * 21, 13 * 21 * (MOST_PLOTS + 2)};
+    const int named[] = {KX_MAP_LIMIT, KX_FOLD_LIMIT, KX_RADIUS_LIMIT, KX_SHEET_LIMIT, KX_RECORD, KX_FEE_RECORD, KX_BASE_RECORD, KX_TRAILER, KX_BOUNDS, KX_START, KX_SIDES, KX_COUNTS, KX_PLACE, KX_LINE, KX_TEXT};
+    const int wanted[] = {LIMIT, FOLDS, RADIUS, SHEET, RECORD, 26, BASE_RECORD, TRAILER, 8, 2, 8, PIECES, 2, 13 * 21, 13 * 21 * (MOST_PLOTS + 2)};
     agree("the constants", NULL, 0, 0, !memcmp(named, wanted, sizeof named));
     const int refusals[] = {KX_NO_CELL, KX_OFF_MAP, KX_NOT_CLOSED, KX_OPPOSED_ROWS, KX_NOTHING_LEFT, KX_TOO_MANY_FOLDS, KX_NO_VERTEX, KX_BAD_LENGTH,
-        KX_BAD_TRAILER, KX_BAD_DISTANCE, KX_BAD_NUMBER, KX_NO_ROOM, KX_NO_RECORD, KX_NOT_FINITE, KX_NO_POINT, KX_HALF_POINT};
+        KX_BAD_TRAILER, KX_BAD_DISTANCE, KX_BAD_NUMBER, KX_NO_ROOM, KX_NO_RECORD, KX_NOT_FINITE, KX_NO_POINT, KX_HALF_POINT, KX_TOO_WIDE};
     for (int k = 0; k < (int)(sizeof refusals / sizeof *refusals); k++)
         agree("the numbers of the refusals", NULL, (uint32_t)refusals[k], (uint32_t)k + 1, 1);
     agree("the map limit", NULL, kx_to_octagon(edge, KX_START, none, KX_SIDES, out, KX_BOUNDS), 0, 1);
     agree("past the map limit", NULL, kx_to_octagon(past, KX_START, none, KX_SIDES, out, KX_BOUNDS), KX_OFF_MAP, 1);
     agree("the fold limit", NULL, kx_erode_n(cell, KX_BOUNDS, cell, KX_BOUNDS, KX_FOLD_LIMIT, out, KX_BOUNDS), 0, 1);
     agree("past the fold limit", NULL, kx_erode_n(cell, KX_BOUNDS, cell, KX_BOUNDS, KX_FOLD_LIMIT + 1, out, KX_BOUNDS), KX_TOO_MANY_FOLDS, 1);
+    agree("the radius limit", NULL, kx_clearance(0, 0, KX_RADIUS_LIMIT, out, KX_BOUNDS), 0, 1);
+    agree("past the radius limit", NULL, kx_clearance(0, 0, KX_RADIUS_LIMIT + 1, out, KX_BOUNDS), KX_TOO_WIDE, 1);
     agree("past the sheet limit", NULL, kx_sheet_start(lent, SHEET, KX_SHEET_LIMIT - KX_TRAILER + 1, &len), KX_BAD_LENGTH, 1);
     uint32_t got = kx_sheet_start(lent, SHEET, KX_SHEET_LIMIT - KX_TRAILER, &len);
     agree("the sheet limit", NULL, got, 0, len == SHEET);

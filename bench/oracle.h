@@ -1,13 +1,14 @@
 /* What documents 01 and 02 say of each call, worked out without the library's formulas: by sets of cells on a window of the grid
  * (cells.c), by walking outlines (walks.c), by searching the rows and columns of any eight bounds (search.c), by the rule of the
- * pieces (splits.c), by bytes (sheets.c), by printf (listings.c) and from the bits of a number (tapes.c). */
+ * pieces (splits.c), by bytes (sheets.c), by printf (listings.c), from the bits of a number (tapes.c) and by the squares of distances
+ * (trees.c). */
 #ifndef ORACLE_H
 #define ORACLE_H
 #include <stddef.h>
 #include <stdint.h>
 
 /* The limits and lengths of documents 01 and 02: a record ends with a fee row, a base record has none. */
-enum { LIMIT = 16000, FOLDS = 65535, SHEET = 65536, RECORD = 26, BASE_RECORD = 24, TRAILER = 16, PIECES = 13 };
+enum { LIMIT = 16000, FOLDS = 65535, RADIUS = 255, SHEET = 65536, RECORD = 26, BASE_RECORD = 24, TRAILER = 16, PIECES = 13 };
 /* The most records of a sheet. */
 enum { MOST_PLOTS = (SHEET - TRAILER) / BASE_RECORD };
 
@@ -24,6 +25,12 @@ typedef struct {
     uint32_t sides[8];
     uint16_t fee_row;
 } plot;
+
+/* A tree: its centre cell, and its radius. */
+typedef struct {
+    int32_t x, y;
+    uint32_t radius;
+} tree;
 
 /* Where the records of a sheet stand: the index of the first, how many there are, and the bytes of each. */
 typedef struct {
@@ -120,5 +127,12 @@ int64_t cell_by_bits(double metres);
 int64_t cell_by_search(double metres);
 /* What a tape gives: 15, 16; then point by point 14, 2; or the bounds that the points' cells reach. */
 answer enclosed(const double *tape, size_t len);
+
+/* ---- trees, by the squares of distances */
+
+/* What a tree gives: 17, 2 for the centre, 2 for a cell about it; or the bounds that the cells at its radius or less reach. */
+answer clearance_by_cells(const tree *t);
+/* The same from the cells about (0, 0), which are enumerated once for each radius and then moved. */
+answer clearance_by_discs(const tree *t);
 
 #endif

@@ -1,7 +1,6 @@
-/* The library from C: cases of document 01, a plot and a frame whose numbers all differ, and a surveyor's tape; example_sheets.c has
- * sheets and the limits. `build.sh` compares what they write with expected.txt. */
+/* The library from C: cases of document 01, and a plot and a frame whose numbers all differ; example_surveys.c has a surveyor's tape
+ * and trees, example_sheets.c sheets and the limits. `build.sh` compares what they write with expected.txt. */
 #include "example.h"
-#include <math.h>
 #include <stdio.h>
 #include <string.h>
 
@@ -25,8 +24,7 @@ static void cell_at(int32_t x, int32_t y, int32_t out[8]) {
     octagon_at(x, y, none, out);
 }
 
-/* Writes an answer: the refusal, or the outline and the cell count of the octagon. */
-static void show(const char *what, uint32_t answer, const int32_t bounds[8]) {
+void show(const char *what, uint32_t answer, const int32_t bounds[8]) {
     int32_t start[2] = {0, 0};
     uint32_t n[8] = {0}, cells = 0;
     if (answer != KX_ACCEPTED) {
@@ -38,7 +36,7 @@ static void show(const char *what, uint32_t answer, const int32_t bounds[8]) {
     printf("%s: start %d %d sides %u %u %u %u %u %u %u %u cells %u\n", what, start[0], start[1], n[0], n[1], n[2], n[3], n[4], n[5], n[6], n[7], cells);
 }
 
-static void show_bounds(const char *what, const int32_t bounds[8]) {
+void show_bounds(const char *what, const int32_t bounds[8]) {
     int32_t o[8] = {0};
     uint32_t answer = kx_normalise(bounds, 8, o, 8), cells = 0;
     if (answer != KX_ACCEPTED) {
@@ -138,36 +136,12 @@ static void splits(void) {
     show_split("split of crossed bounds", CROSSED);
 }
 
-/* Writes the octagon round a tape, and its outline, or the refusal. */
-static void survey(const char *what, const double *tape, size_t len) {
-    int32_t out[KX_BOUNDS] = {0};
-    uint32_t answer = kx_enclose(tape, len, out, KX_BOUNDS);
-    if (answer != KX_ACCEPTED) {
-        printf("%s: refused %u\n", what, answer);
-        return;
-    }
-    show_bounds(what, out);
-    show("its outline", answer, out);
-}
-
-/* An irregular plot, from its lowest corner round; a point that was not measured; tapes that end early; and the edge of the map. */
-static void tapes(void) {
-    static const double plot[18] = {12.3, -4.875, 17.62, -4.4, 21.125, -1.07, 22.09, 3.7, 19.84, 8.33, 14.6, 10.95, 9.4, 9.2, 6.375, 5.05, 7.9, -1.375};
-    const double gap[6] = {12.3, -4.875, 17.62, NAN, 4100.5, 3.7}, far[6] = {12.3, -4.875, 4000.125, -4.4, INFINITY, 3.7};
-    const double edge[2] = {4000.0625, -4000.125};
-    survey("surveyed plot", plot, 18);
-    survey("a point that was not measured", gap, 6);
-    survey("a point off the map", far, 6);
-    survey("nine numbers", plot, 9);
-    survey("no point", plot, 0);
-    survey("a point at the edge of the map", edge, 2);
-}
-
 int main(void) {
     octagons();
     uneven();
     splits();
     tapes();
+    trees();
     sheets();
     base_sheets();
     limits();

@@ -8,6 +8,15 @@ static const uint32_t K13[8] = {0, 1, 0, 1, 0, 1, 0, 1};
 static const int32_t UNEVEN_START[2] = {-4, -5};
 static const uint32_t UNEVEN_SIDES[8] = {3, 1, 14, 2, 5, 4, 6, 7};
 
+/* Writes an answer: the refusal, or the outline and the cell count of the octagon (example.c). */
+void show(const char *what, uint32_t answer, const int32_t bounds[8]);
+/* Writes bounds in their normal form and the cell count, or the refusal (example.c). */
+void show_bounds(const char *what, const int32_t bounds[8]);
+
+/* Tapes and trees (example_surveys.c). */
+void tapes(void);
+void trees(void);
+
 /* Sheets, and the constants of koxirmeta.h (example_sheets.c). */
 void sheets(void);
 void base_sheets(void);

@@ -1,6 +1,7 @@
-//! The library from Rust: the cases of example.c and, in example_sheets.rs, those of example_sheets.c. `build.sh` compares what they
-//! write with expected.txt.
+//! The library from Rust: the cases of example.c and, in example_surveys.rs and example_sheets.rs, those of example_surveys.c and
+//! example_sheets.c. `build.sh` compares what they write with expected.txt.
 mod example_sheets;
+mod example_surveys;
 mod koxirmeta;
 
 use koxirmeta as kx;
@@ -110,39 +111,19 @@ fn splits() {
     show_split("split of crossed bounds", &CROSSED);
 }
 
-/// Writes the octagon round a tape, and its outline, or the refusal.
-fn survey(what: &str, tape: &[f64]) {
-    match kx::enclose(tape) {
-        Err(why) => refused(what, why),
-        Ok(b) => {
-            show_bounds(what, &b);
-            show("its outline", Ok(b));
-        }
-    }
-}
-
-/// An irregular plot, from its lowest corner round; a point that was not measured; tapes that end early; and the edge of the map.
-fn tapes() {
-    let plot = [12.3, -4.875, 17.62, -4.4, 21.125, -1.07, 22.09, 3.7, 19.84, 8.33, 14.6, 10.95, 9.4, 9.2, 6.375, 5.05, 7.9, -1.375];
-    survey("surveyed plot", &plot);
-    survey("a point that was not measured", &[12.3, -4.875, 17.62, f64::NAN, 4100.5, 3.7]);
-    survey("a point off the map", &[12.3, -4.875, 4000.125, -4.4, f64::INFINITY, 3.7]);
-    survey("nine numbers", &plot[..9]);
-    survey("no point", &[]);
-    survey("a point at the edge of the map", &[4000.0625, -4000.125]);
-}
-
-/// Each number of a refusal has a name and words, and no other number has; and a tape's are given by their names.
+/// Each number of a refusal has a name and words, and no other number has; and a tape's and a tree's are given by their names.
 fn refusals() {
     assert_eq!(kx::enclose(&[]), Err(Refusal::NoPoint));
     assert_eq!(kx::enclose(&[1.5]), Err(Refusal::HalfPoint));
     assert_eq!(kx::enclose(&[5000.0, f64::NAN]), Err(Refusal::NotFinite));
     assert_eq!(kx::enclose(&[5000.0, 1.5]), Err(Refusal::OffMap));
+    assert_eq!(kx::clearance(i32::MIN, 5, kx::RADIUS_LIMIT + 1), Err(Refusal::TooWide));
+    assert_eq!(kx::clearance(i32::MIN, 5, kx::RADIUS_LIMIT), Err(Refusal::OffMap));
     for number in 1..=255 {
         let why = Refusal::from_number(number);
         let error: &dyn std::error::Error = &why;
         assert_eq!(why.number(), number);
-        assert_eq!(why.name() != "Unknown", number <= 16 || number == 255);
+        assert_eq!(why.name() != "Unknown", number <= 17 || number == 255);
         assert!(error.to_string().starts_with(&format!("refused {number}: ")));
     }
 }
@@ -151,7 +132,8 @@ fn main() {
     octagons();
     uneven();
     splits();
-    tapes();
+    example_surveys::tapes();
+    example_surveys::trees();
     example_sheets::sheets();
     example_sheets::base_sheets();
     example_sheets::limits();

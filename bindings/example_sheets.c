@@ -116,6 +116,8 @@ void limits(void) {
     printf(", one more: %u\n", kx_to_octagon(past, 2, NONE, 8, out, 8));
     printf("fold limit %d: %u", KX_FOLD_LIMIT, kx_dilate_n(ORIGIN, 8, ORIGIN, 8, KX_FOLD_LIMIT, out, 8));
     printf(", one more: %u\n", kx_dilate_n(ORIGIN, 8, ORIGIN, 8, KX_FOLD_LIMIT + 1, out, 8));
+    printf("radius limit %d: %u", KX_RADIUS_LIMIT, kx_clearance(0, 0, KX_RADIUS_LIMIT, out, 8));
+    printf(", one more: %u\n", kx_clearance(0, 0, KX_RADIUS_LIMIT + 1, out, 8));
     printf("sheet limit %d: %u", KX_SHEET_LIMIT, kx_sheet_start(sheet, sizeof sheet, KX_SHEET_LIMIT - KX_TRAILER, &len));
     printf(", one more: %u", kx_sheet_start(sheet, sizeof sheet, KX_SHEET_LIMIT - KX_TRAILER + 1, &len));
     printf(", length %zu\n", len);

@@ -82,6 +82,8 @@ pub fn limits() {
     println!("map limit {map}: {}, one more: {}", cell(map), cell(map + 1));
     let fold = |n| number(&kx::dilate_n(&ORIGIN, &ORIGIN, n));
     println!("fold limit {folds}: {}, one more: {}", fold(folds), fold(folds + 1));
+    let (radii, tree) = (kx::RADIUS_LIMIT, |radius| number(&kx::clearance(0, 0, radius)));
+    println!("radius limit {radii}: {}, one more: {}", tree(radii), tree(radii + 1));
     let len = kx::sheet_start(&mut sheet, full).unwrap();
     println!("sheet limit {}: 0, one more: {}, length {len}", kx::SHEET_LIMIT, number(&kx::sheet_start(&mut sheet, full + 1)));
     let len = kx::sheet_start(&mut sheet, 0).unwrap();

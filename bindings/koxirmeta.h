@@ -22,7 +22,10 @@
  *
  * TAPES. A surveyor's points in metres, east and north in turn: two numbers for a point, as many points as there are. Every double
  * may be passed. A coordinate e falls on the greatest whole number n with n * 0.25 - 0.125 <= e, worked out without loss; the two
- * numbers of a point are the cell that it falls on. */
+ * numbers of a point are the cell that it falls on.
+ *
+ * TREES. A centre cell (x, y), and a radius in whole cells. Every number may be passed. The cells at that distance or less are the
+ * cells (u, v) with (u-x) * (u-x) + (v-y) * (v-y) <= radius * radius, worked out without loss. */
 #ifndef KOXIRMETA_H
 #define KOXIRMETA_H
 
@@ -37,6 +40,7 @@ extern "C" {
 enum {
     KX_MAP_LIMIT = 16000,    /* of a cell's coordinates, up and down */
     KX_FOLD_LIMIT = 65535,   /* of n in an n-fold call */
+    KX_RADIUS_LIMIT = 255,   /* of a tree's radius, in cells */
     KX_SHEET_LIMIT = 65536,  /* of a sheet's length, in bytes */
     KX_BASE_RECORD = 24,     /* the length of document 01's record, in bytes: it has no fee row */
     KX_FEE_RECORD = 26,      /* the length of a record that ends with a fee row, in bytes */
@@ -70,6 +74,7 @@ enum {
     KX_NOT_FINITE = 14,      /* a coordinate of a tape is an infinity or no number */
     KX_NO_POINT = 15,        /* the tape is empty */
     KX_HALF_POINT = 16,      /* the tape's length is odd: it ends in half a point */
+    KX_TOO_WIDE = 17,        /* the tree's radius is above KX_RADIUS_LIMIT */
     KX_WRONG_LENGTH = 255    /* a slice of the wrong length: the caller's mistake, and no number of the documents */
 };
 
@@ -113,6 +118,10 @@ uint32_t kx_decompose(const int32_t *bounds, size_t bounds_len, int32_t *start, 
  * no value of it is answered with KX_WRONG_LENGTH. Refusals: 15 when it is 0, 16 when it is odd; then for each point in turn 14
  * when either coordinate is not finite, and 2 when its cell lies off the map. */
 uint32_t kx_enclose(const double *tape, size_t tape_len, int32_t *out, size_t out_len);
+
+/* The clearance of a tree, to out[KX_BOUNDS]: the smallest octagon that holds every cell at the radius from the centre or less.
+ * Refusals: 17, then 2 when the centre lies off the map, then 2 when the octagon leaves it. */
+uint32_t kx_clearance(int32_t x, int32_t y, uint32_t radius, int32_t *out, size_t out_len);
 
 /* A sheet stands in the first len of the sheet_len bytes of a buffer: a heading, records and a trailer of KX_TRAILER bytes. Its
  * records all have the length that the trailer names, KX_BASE_RECORD or KX_FEE_RECORD, and sheets of both are read. A fee row is any

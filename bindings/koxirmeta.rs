@@ -11,6 +11,8 @@ use std::fmt;
 pub const MAP_LIMIT: i32 = 16000;
 /// The most folds of one n-fold call.
 pub const FOLD_LIMIT: u32 = 65535;
+/// The greatest radius of a tree, in cells.
+pub const RADIUS_LIMIT: u32 = 255;
 /// The length of the longest sheet, in bytes.
 pub const SHEET_LIMIT: usize = 65536;
 /// The length of document 01's record, in bytes: it has no fee row.
@@ -123,6 +125,8 @@ refusals! {
     NoPoint = 15,
     /// The tape's length is odd: it ends in half a point.
     HalfPoint = 16,
+    /// The tree's radius is above [`RADIUS_LIMIT`].
+    TooWide = 17,
     /// A slice of the wrong length: the caller's mistake, and no number of the documents.
     WrongLength = 255,
 }
@@ -147,6 +151,7 @@ impl fmt::Display for Refusal {
             Refusal::NotFinite => write!(f, "a coordinate of the tape is an infinity or no number"),
             Refusal::NoPoint => write!(f, "the tape is empty"),
             Refusal::HalfPoint => write!(f, "the length of the tape is odd, so that it ends in half a point"),
+            Refusal::TooWide => write!(f, "the radius of the tree is above {RADIUS_LIMIT}"),
             Refusal::WrongLength => write!(f, "a slice has the wrong length"),
             Refusal::Unknown(_) => write!(f, "a number of another version of the library"),
         }
@@ -170,6 +175,7 @@ mod calls {
         pub fn kx_vertex_place(bounds: *const i32, bounds_len: usize, k: u32, place: *mut f64, place_len: usize) -> u32;
         pub fn kx_decompose(bounds: *const i32, bounds_len: usize, start: *mut i32, start_len: usize, counts: *mut u32, counts_len: usize) -> u32;
         pub fn kx_enclose(tape: *const f64, tape_len: usize, out: *mut i32, out_len: usize) -> u32;
+        pub fn kx_clearance(x: i32, y: i32, radius: u32, out: *mut i32, out_len: usize) -> u32;
         pub fn kx_sheet_check(sheet: *const u8, sheet_len: usize, len: usize, count: *mut u32) -> u32;
         pub fn kx_sheet_fetch(sheet: *const u8, sheet_len: usize, len: usize, k: u32, number: *mut u32, start: *mut i32, start_len: usize, sides: *mut u32, sides_len: usize, fee_row: *mut u16) -> u32;
         pub fn kx_sheet_read(sheet: *const u8, sheet_len: usize, len: usize, k: u32, number: *mut u32, start: *mut i32, start_len: usize, sides: *mut u32, sides_len: usize, fee_row: *mut u16) -> u32;
@@ -280,6 +286,16 @@ pub fn decompose(bounds: &Bounds) -> Result<(Start, Counts), Refusal> {
 /// Refusals: `NoPoint`, `HalfPoint`; then for each point in turn `NotFinite`, `OffMap`.
 pub fn enclose(tape: &[f64]) -> Result<Bounds, Refusal> {
     answer(|out: &mut Bounds| unsafe { calls::kx_enclose(tape.as_ptr(), tape.len(), out.as_mut_ptr(), out.len()) })
+}
+
+/// The clearance of a tree with the centre cell (x, y) and a radius in whole cells: the smallest octagon that holds every cell at that
+/// distance or less.
+///
+/// Those are the cells (u, v) with (u-x) * (u-x) + (v-y) * (v-y) <= radius * radius, worked out without loss.
+///
+/// Refusals: `TooWide`; then `OffMap` for the centre, and `OffMap` for the octagon.
+pub fn clearance(x: i32, y: i32, radius: u32) -> Result<Bounds, Refusal> {
+    answer(|out: &mut Bounds| unsafe { calls::kx_clearance(x, y, radius, out.as_mut_ptr(), out.len()) })
 }
 
 /// How many records the sheet in the first `len` bytes has, of [`BASE_RECORD`] or of [`FEE_RECORD`] bytes each.

@@ -131,10 +131,10 @@ def sides(piece):
 
 
 def constants():
-    """The map, the folds, a sheet's length, a record's without and with a fee row, that of one written, and a trailer's; the refusals; the
-    constants of the octagon; the tables."""
-    print("limits", *(words.replace(",", "") for words in ("16,000", "65,535", "65,536", "24", "26", "26", "16")))
-    print("refusals", *range(1, 17))
+    """The map, the folds, a sheet's length, a record's without and with a fee row, that of one written, a trailer's, and the greatest
+    radius; the refusals; the constants of the octagon; the tables."""
+    print("limits", *(words.replace(",", "") for words in ("16,000", "65,535", "65,536", "24", "26", "26", "16", "255")))
+    print("refusals", *range(1, 18))
     print("origin", *[0] * 8)
     print("built", *range(1, 9))
     print("steps", *(n for step in re.findall(r"(-?\d),(-?\d)", STEPS) for n in step))

@@ -1,4 +1,4 @@
-"""Document 01's octagons, outlines and splits as sets of cells, for exports.py, examples.py and tapes.py.
+"""Document 01's octagons, outlines and splits as sets of cells, for exports.py, examples.py, tapes.py and clearances.py.
 
 It shares nothing with the library. A set is a Python set of cells (x, y). Bounds hold the cells that pass the eight inequalities; the
 bounds of an answer are the greatest values of their left sides. Sums, positions that fit, walks, opposed rows and the split are taken

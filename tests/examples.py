@@ -2,13 +2,14 @@
 """Works out what the examples of bindings/ write, on its own: python3 tests/examples.py > bindings/expected.txt
 
 It shares with the examples in C and Rust their operands and the words of a line. What the calls answer is worked out by cells.py,
-enclosing.py and sheets.py.
+clearances.py, enclosing.py and sheets.py.
 """
 from math import inf, nan
 
 import sheets
 from cells import PAIRED, PIECES, WRONG_LENGTH, corner, inside, outline, some, split, tightest
 from sheets import Refused
+from clearances import around
 from enclosing import enclose
 
 
@@ -105,12 +106,17 @@ def splits():
 SURVEY = [12.3, -4.875, 17.62, -4.4, 21.125, -1.07, 22.09, 3.7, 19.84, 8.33, 14.6, 10.95, 9.4, 9.2, 6.375, 5.05, 7.9, -1.375]
 
 
-def surveyed(what, tape):
+def bounded_and_drawn(what, work):
+    """The lines of an octagon that is given by its bounds, or of a refusal."""
     try:
-        bounds = enclose(tape)
+        bounds = work()
     except Refused as refusal:
         return "%s: refused %d\n" % (what, refusal.args[0])
     return bounded(what, bounds) + drawn("its outline", lambda: some(bounds))
+
+
+def surveyed(what, tape):
+    return bounded_and_drawn(what, lambda: enclose(tape))
 
 
 def tapes():
@@ -119,6 +125,17 @@ def tapes():
     yield surveyed("a point off the map", [12.3, -4.875, 4000.125, -4.4, inf, 3.7])
     yield surveyed("nine numbers", SURVEY[:9]) + surveyed("no point", [])
     yield surveyed("a point at the edge of the map", [4000.0625, -4000.125])
+
+
+TREES = [(131, -58, 17), (-3, 7, 0), (4, -9, 3), (-12, 8, 5)]
+TREES += [(15983, -15983, 17), (15984, -15983, 17), (15983, -15984, 17), (-15983, 15983, 17), (-15984, 15983, 17), (-15983, 15984, 17)]
+TREES += [(-6, 2, 255), (-6, 2, 256), (-6, 2, 2**32 - 1), (16001, -6, 0), (2, -16001, 256)]
+TREES += [(x, -1 - x, radius) for x in (-(2**31), 2**31 - 1) for radius in (255, 256)]
+
+
+def trees():
+    for tree in TREES:
+        yield bounded_and_drawn("tree (%d,%d) radius %d" % tree, lambda: around(*tree))
 
 
 def record(what, work):
@@ -191,8 +208,12 @@ def limits():
     def fold(n):
         return number(lambda: PAIRED["dilate_n"](ORIGIN, ORIGIN, n))
 
+    def tree(radius):
+        return number(lambda: around(0, 0, radius))
+
     yield "map limit 16000: %d, one more: %d\n" % (cell(16000), cell(16001))
     yield "fold limit 65535: %d, one more: %d\n" % (fold(65535), fold(65536))
+    yield "radius limit 255: %d, one more: %d\n" % (tree(255), tree(256))
     sheet = bytearray(65536)
     full = sheets.start(sheet, 65520)
     yield "sheet limit 65536: 0, one more: %d, length %d\n" % (number(lambda: sheets.start(sheet, 65521)), full)
@@ -208,5 +229,5 @@ def limits():
 
 
 if __name__ == "__main__":
-    for part in octagons, uneven, splits, tapes, on_sheets, on_base_sheets, limits:
+    for part in octagons, uneven, splits, tapes, trees, on_sheets, on_base_sheets, limits:
         print("".join(part()), end="")

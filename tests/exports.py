@@ -2,7 +2,7 @@
 """Works out what crates/export_cases writes, on its own: python3 tests/exports.py > crates/export_cases/stdout
 
 It shares with the program its operands and the form of a line: the name of a call, the number that it answers, and the memory that it
-was lent, as it is afterwards. What the calls answer is worked out by cells.py, enclosing.py and sheets.py.
+was lent, as it is afterwards. What the calls answer is worked out by cells.py, clearances.py, enclosing.py and sheets.py.
 """
 import struct
 from math import inf, isnan, nan
@@ -10,6 +10,7 @@ from math import inf, isnan, nan
 import sheets
 from cells import PAIRED, WRONG_LENGTH, corner, inside, outline, some, split, tightest
 from sheets import Refused
+from clearances import MAX, MIN, around
 from enclosing import enclose
 
 PLOT = [5, 4, 0, 10, 12, 19, 11, 9]
@@ -119,6 +120,27 @@ def on_tapes():
         yield on_tape([1.9, -2.3, 4.7][:length], places)
 
 
+# ---- trees
+
+CLEAR = [(-37, 52, 0), (9, -4, 1), (-6, -11, 3), (23, 14, 5), (-1234, 5678, 255)]
+CLEAR += [(15745, -31, 255), (17, 15746, 254), (-15995, 42, 5), (-8, -15997, 3)]
+TOO_WIDE = [(2, 7, 256), (-40000, 6, 511), (MIN, MAX, 2**32 - 1)]
+PAST_EDGE = [(15746, -31, 255), (17, 15747, 254), (-15996, 42, 5), (-8, -15998, 3)]
+PAST_EDGE += [(16001, 10, 0), (-12, -16001, 0), (MAX, 4, 255), (-3, MIN, 255)]
+
+
+def clearance(tree, places=8):
+    out = from_number(101, places)
+    return line("clearance", called(places == 8, lambda: [around(*tree)], out), out)
+
+
+def on_trees():
+    for tree in CLEAR + TOO_WIDE + PAST_EDGE:
+        yield clearance(tree)
+    for tree, places in (CLEAR[1], 7), (CLEAR[1], 9), (TOO_WIDE[0], 7), (PAST_EDGE[4], 9):
+        yield clearance(tree, places)
+
+
 # ---- sheets
 
 
@@ -210,4 +232,4 @@ def on_sheets():
 
 
 if __name__ == "__main__":
-    print("".join(octagons()) + "".join(on_tapes()) + "".join(on_sheets()), end="")
+    print("".join(octagons()) + "".join(on_tapes()) + "".join(on_trees()) + "".join(on_sheets()), end="")

@@ -1,5 +1,5 @@
--- Document 01's limits, refusal numbers and tables, and document 02's refusal numbers and record length, with the values that they print,
--- by one computed test over a list. Theorems name constants; this list says what the constants are. Assumes nothing.
+-- Document 01's limits, refusal numbers and tables, and document 02's refusal numbers, record length and radius limit, with the values that
+-- they print, by one computed test over a list. Theorems name constants; this list says what the constants are. Assumes nothing.
 use mathlib.Core.Path.{_≡_, refl}
 use mathlib.Core.List.{List, [], _∷_, map}
 use Prim.Native.Nat.{ℕ, _*_}
@@ -22,19 +22,21 @@ use Rattle.sheet.specs.Sheets.{sheet-limit}
 use Rattle.sheet.specs.Answers.{bad-length, bad-trailer, bad-distance, bad-number, no-room, no-record}
 use Rattle.tape.specs.Snapping.{not-finite}
 use Rattle.tape.specs.Enclosing.{no-point, half-point}
+use Rattle.clearance.specs.Clearing.{radius-limit, too-wide}
 use Rattle.cases.specs.Shorthand.{Case, is}
 
 -- ---- what the documents print
 
 -- "both coordinates from -16,000 to 16,000", "6 when n is above 65,535", "8 when the length is .. above 65,536", "A record is 24 bytes",
--- and in document 02 "New records are 26 bytes, and starting a sheet and insert write 26"; "The trailer is 16 bytes"
+-- and in document 02 "New records are 26 bytes, and starting a sheet and insert write 26"; "The trailer is 16 bytes"; and in document 02
+-- "17 when the radius is above 255"
 abbrev pub printed-limits : List ℕ
-printed-limits = 16000 ∷ 65535 ∷ 65536 ∷ 24 ∷ 26 ∷ 26 ∷ 16 ∷ []
+printed-limits = 16000 ∷ 65535 ∷ 65536 ∷ 24 ∷ 26 ∷ 26 ∷ 16 ∷ 255 ∷ []
 
 -- the refusals: no cell, off the map, not closed, opposed rows, nothing left, too many folds, corner above 7, length, trailer, distance,
--- plot number, no room, no record; and those of document 02: not finite, no point, half a point
+-- plot number, no room, no record; and those of document 02: not finite, no point, half a point, radius above 255
 abbrev pub printed-refusals : List ℕ
-printed-refusals = 1 ∷ 2 ∷ 3 ∷ 4 ∷ 5 ∷ 6 ∷ 7 ∷ 8 ∷ 9 ∷ 10 ∷ 11 ∷ 12 ∷ 13 ∷ 14 ∷ 15 ∷ 16 ∷ []
+printed-refusals = 1 ∷ 2 ∷ 3 ∷ 4 ∷ 5 ∷ 6 ∷ 7 ∷ 8 ∷ 9 ∷ 10 ∷ 11 ∷ 12 ∷ 13 ∷ 14 ∷ 15 ∷ 16 ∷ 17 ∷ []
 
 -- "the letters GRND"
 abbrev pub printed-letters : List ℕ
@@ -99,8 +101,8 @@ thirteen = 0 ∷ 1 ∷ 2 ∷ 3 ∷ 4 ∷ 5 ∷ 6 ∷ 7 ∷ 8 ∷ 9 ∷ 10 ∷ 11
 
 pub fixed-numbers : List (Case Fixed)
 fixed-numbers =
-    is (numbers (limit ∷ fold-limit ∷ sheet-limit ∷ base-length ∷ fee-length ∷ record-length ∷ trailer-length ∷ [])) (numbers printed-limits) ∷
-    is (numbers (no-cell ∷ off-map ∷ not-closed ∷ opposed-rows ∷ nothing-left ∷ too-many-folds ∷ no-vertex ∷ bad-length ∷ bad-trailer ∷ bad-distance ∷ bad-number ∷ no-room ∷ no-record ∷ not-finite ∷ no-point ∷ half-point ∷ []))
+    is (numbers (limit ∷ fold-limit ∷ sheet-limit ∷ base-length ∷ fee-length ∷ record-length ∷ trailer-length ∷ radius-limit ∷ [])) (numbers printed-limits) ∷
+    is (numbers (no-cell ∷ off-map ∷ not-closed ∷ opposed-rows ∷ nothing-left ∷ too-many-folds ∷ no-vertex ∷ bad-length ∷ bad-trailer ∷ bad-distance ∷ bad-number ∷ no-room ∷ no-record ∷ not-finite ∷ no-point ∷ half-point ∷ too-wide ∷ []))
     (numbers printed-refusals) ∷
     is (numbers (bytes 4 letters)) (numbers printed-letters) ∷
     is (numbers (map (λ w. 8 * w) base-layout)) (numbers (printed-record-fields 0)) ∷

@@ -11,9 +11,9 @@ use outline::Outline;
 use outline::tables::STEPS;
 use outline::tables::piece_sides;
 
-// The limits of the map, of folds and of a sheet's length, and the lengths of a record without and with a fee row, of one that is written,
-// and of a trailer.
-fn limits() -> [u32; 7]
+// The limits of the map, of folds and of a sheet's length, the lengths of a record without and with a fee row, of one that is written, and
+// of a trailer, and the limit of a radius.
+fn limits() -> [u32; 8]
     ensures { λ r. ⌜ r ≡ numbers.printed-limits ⌝ }
 {
     [
@@ -24,10 +24,11 @@ fn limits() -> [u32; 7]
         sheet::FEE_RECORD as u32,
         sheet::RECORD as u32,
         sheet::TRAILER as u32,
+        clearance::RADIUS_LIMIT,
     ]
 }
 
-fn refusals() -> [u32; 16]
+fn refusals() -> [u32; 17]
     ensures { λ r. ⌜ r ≡ numbers.printed-refusals ⌝ }
 {
     [
@@ -47,6 +48,7 @@ fn refusals() -> [u32; 16]
         tape::NOT_FINITE,
         tape::NO_POINT,
         tape::HALF_POINT,
+        clearance::TOO_WIDE,
     ]
 }
 

@@ -4,10 +4,10 @@ use mathlib.Core.List.{List, [], _∷_, map}
 use Prim.Native.Nat.{ℕ}
 use lib.IntN.{pos}
 use Rattle.octagon.specs.Cells.{Cells}
+use Rattle.octagon.specs.OneCell.{OneCell}
 use Rattle.outline.specs.declared.Outline.{Outline}
 use Rattle.outline.specs.Tables.{pieces, piece-sides}
 use Rattle.outline.specs.Walk.{with-sides, InsideWalk}
-use Rattle.outline.specs.Meaning.{OneCell}
 use Rattle.morphology.specs.Sets.{DilatedTimes}
 use Rattle.decomposition.specs.declared.Start.{Start}
 use Rattle.decomposition.specs.declared.Counts.{Counts}

@@ -1,5 +1,6 @@
 // Every exported function, called on slices of the right and of wrong lengths, accepted and refused: the number that it answers, and the
 // memory that it was lent, as it is afterwards. tests/exports.py works the expected output out on its own.
+mod clearances;
 mod octagons;
 mod outlines;
 mod plots;
@@ -24,5 +25,6 @@ fn main() {
     each_octagon();
     octagons::misfits();
     tapes::tapes();
+    clearances::clearances();
     plots::plots();
 }

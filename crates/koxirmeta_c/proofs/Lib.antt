@@ -4,3 +4,4 @@ pub mod Fitting
 pub mod Examples
 pub mod SheetExamples
 pub mod TapeExamples
+pub mod ClearanceExamples

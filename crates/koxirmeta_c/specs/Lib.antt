@@ -3,4 +3,5 @@ pub mod Calls
 pub mod Outlines
 pub mod Splits
 pub mod Tapes
+pub mod Clearances
 pub mod Sheets

@@ -12,4 +12,5 @@ pub mod Unique
 pub mod Sides
 pub mod NormalForms
 pub mod Smallest
+pub mod OneCell
 pub mod Examples

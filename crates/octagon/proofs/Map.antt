@@ -1,23 +1,24 @@
--- The test that normalised bounds are on the map, in cells; and that such bounds fit an i32. Assumes nothing.
+-- The test that normalised bounds are on the map, in cells: also of bounds that any set of cells reaches, which leaves the map where the test
+-- fails; and that bounds on the map fit an i32. Assumes nothing.
 use mathlib.Core.Path.{_≡_, sym, _∙_}
 use mathlib.Core.Logic.{_↔_}
 use mathlib.Core.Bool.{true, false}
 use Prim.Native.Nat.{_+_}
 use native.Mathlib.Omega.{arith}
-use lib.IntN.{pos}
+use lib.IntN.{ℤ, pos}
 use lib.Signed.{leZ}
 use mir.Syntax.{w32}
-use Rattle.integers.proofs.Parts.{up, dn}
+use Rattle.integers.proofs.Parts.{up, dn, eq-parts, neg-up, neg-dn}
 use Rattle.integers.proofs.Linear.{#, lit}
 use Rattle.integers.proofs.Tests.{and-le, test-le, le-test, and-true, true-is-not-false}
 use Rattle.integers.proofs.Between.{decide}
 use Rattle.integers.proofs.Range.{room-near, room-fits32}
 use Rattle.octagon.specs.declared.Octagon.{Octagon}
-use Rattle.octagon.specs.Cells.{_⊆_, In, OnMap, LeavesMap, Normalised, limit}
+use Rattle.octagon.specs.Cells.{Cells, _⊆_, Some, In, OnMap, LeavesMap, ReachedBy, Normalised, limit}
 use Rattle.octagon.specs.NormalForm.{is-on-map}
 use Rattle.octagon.specs.Widths.{Held}
 use Rattle.octagon.proofs.Within.{Within, Normal, Near, OnGrid, within, cell-in, on-grid, on-map}
-use Rattle.octagon.proofs.Vertices.{reached-normal, at, vertex-12, vertex-34, vertex-56, vertex-70}
+use Rattle.octagon.proofs.Vertices.{reached-normal, normal-reached, vertex-12, vertex-34, vertex-56, vertex-70}
 
 -- ---- the test
 
@@ -70,18 +71,24 @@ on-map-exactly c n = (
   λ h. near-test c (cells-near c (reached-normal c (n .reached)) h),
 )
 
--- a vertex off the map
-pub far-cell : (c : Octagon) → Normal c → is-on-map c ≡ false → LeavesMap (In c)
-far-cell c n h =
+-- a bound past the limit is reached by a cell off the map
+pub far-reached : {A : Cells} (c : Octagon) → ReachedBy A c → is-on-map c ≡ false → LeavesMap A
+far-reached {A} c r h =
     decide (# (c .c0)) (lit limit)
     (λ m0. decide (# (c .c2)) (lit limit)
     (λ m2. decide (# (c .c4)) (lit limit)
     (λ m4. decide (# (c .c6)) (lit limit)
     (λ m6. absurd (true-is-not-false (sym (near-test c (record { near0 = m0; near2 = m2; near4 = m4; near6 = m6 })) ∙ h)))
-    (λ f. let v = vertex-56 c n in at v (λ m. omega (arith, on-grid m, v .at-x))))
-    (λ f. let v = vertex-34 c n in at v (λ m. omega (arith, on-grid m, v .at-y))))
-    (λ f. let v = vertex-12 c n in at v (λ m. omega (arith, on-grid m, v .at-x))))
-    (λ f. let v = vertex-70 c n in at v (λ m. omega (arith, on-grid m, v .at-y)))
+    (λ f. off (r .reached6) (λ x y e m. omega (arith, eq-parts e, on-grid m, neg-up x, neg-dn x))))
+    (λ f. off (r .reached4) (λ x y e m. omega (arith, eq-parts e, on-grid m))))
+    (λ f. off (r .reached2) (λ x y e m. omega (arith, eq-parts e, on-grid m))))
+    (λ f. off (r .reached0) (λ x y e m. omega (arith, eq-parts e, on-grid m, neg-up y, neg-dn y)))
+  where
+    off : {P : Cells} → Some (λ x y. A x y × P x y) → ((x y : ℤ) → P x y → ¬ (OnMap x y)) → LeavesMap A
+    off s k = record { x = s .x; y = s .y; cell = (s .cell .0, k (s .x) (s .y) (s .cell .1)) }
+
+pub far-cell : (c : Octagon) → Normal c → is-on-map c ≡ false → LeavesMap (In c)
+far-cell c n = far-reached c (normal-reached c n)
 
 -- ---- the bounds
 

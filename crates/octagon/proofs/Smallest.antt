@@ -1,17 +1,22 @@
--- The smallest octagon that holds a set of cells: there is one at most, it is normalised, and it is on the map where the set is. For the
--- cells of an octagon it is the normal form. Assumes nothing.
+-- The smallest octagon that holds a set of cells: there is one at most, it is normalised, and it is on the map, and so placed, where the
+-- set is. For the cells of an octagon it is the normal form. Assumes nothing.
 use mathlib.Core.Path.{_≡_, ap, _∙_}
+use mathlib.Core.Bool.{true}
 use mathlib.Core.Logic.{_↔_}
 use Prim.Native.Nat.{_+_}
 use native.Mathlib.Omega.{arith}
 use lib.IntN.{ℤ, pos}
+use mir.Syntax.{w32}
 use Rattle.integers.proofs.Parts.{up, dn}
+use Rattle.integers.proofs.Tests.{cases}
 use Rattle.octagon.specs.declared.Octagon.{Octagon}
-use Rattle.octagon.specs.Outcome.{accepted}
-use Rattle.octagon.specs.Cells.{Cells, _⊆_, _≐_, Some, In, OnMap, ReachedBy, Normalised, Smallest, limit}
-use Rattle.octagon.specs.NormalForm.{normalised}
+use Rattle.octagon.specs.Outcome.{accepted, refused, off-map}
+use Rattle.octagon.specs.Cells.{Cells, _⊆_, _≐_, Some, In, OnMap, LeavesMap, ReachedBy, Normalised, Smallest, limit}
+use Rattle.octagon.specs.NormalForm.{is-on-map, placed, normalised}
+use Rattle.octagon.specs.Widths.{Held}
 use Rattle.octagon.proofs.Within.{Within, OnGrid, within, cell-in, on-grid}
-use Rattle.octagon.proofs.Map.{near-cells}
+use Rattle.octagon.proofs.Vertices.{reached-normal}
+use Rattle.octagon.proofs.Map.{near-cells, cells-near, near-held, on-map-exactly, far-reached}
 use Rattle.octagon.proofs.Unique.{AtMost, at-mosts, both-ways}
 use Rattle.octagon.proofs.NormalForms.{accepted-means, accepted-when}
 
@@ -82,6 +87,30 @@ smallest-on-map s h x y i = near-cells whole-map (omega arith) x y (s .least who
     go : (u v : ℤ) → OnGrid u v → Within whole-map u v
     go u v g = omega arith
 
+-- ---- its place on the map
+
+module _ {a : Octagon} {A : Cells} (s : Smallest a A) where
+  -- the test on its bounds tells whether the set is on the map
+  pub test-means : is-on-map a ≡ true → A ⊆ OnMap
+  test-means h x y i = on-map-exactly a (smallest-normalised s) .0 h x y (s .holds x y i)
+
+  pub placed-within : A ⊆ OnMap → placed a ≡ accepted a
+  unfolding placed
+  placed-within h = rw (on-map-exactly a (smallest-normalised s) .1 (smallest-on-map s h))
+
+  -- on the map, its bounds fit 32 bits
+  pub smallest-held : A ⊆ OnMap → Held w32 a
+  smallest-held h =
+      let n = reached-normal a (smallest-normalised s .reached) in
+      near-held a n (cells-near a n (smallest-on-map s h))
+
+  pub placed-leaving : LeavesMap A → placed a ≡ refused off-map
+  unfolding placed
+  placed-leaving l = cases (is-on-map a) (λ h. absurd (l .cell .1 (test-means h (l .x) (l .y) (l .cell .0)))) (λ h. rw h)
+
+  pub within-or-leaving : {R : Type 0} → (A ⊆ OnMap → R) → (LeavesMap A → R) → R
+  within-or-leaving f g = cases (is-on-map a) (λ h. f (test-means h)) (λ h. g (far-reached a (s .reached) h))
+
 -- ---- of the cells of an octagon
 
 -- the smallest octagon that holds the cells of c is the one that is normalised and has them
@@ -105,3 +134,8 @@ smallest-accepted c a = (means a, given)
         let r = h .0 .reached .reached0 in
         let w = accepted-when c (record { x = r .x; y = r .y; cell = r .cell .0 }) (h .1) in
         w .1 ∙ ap accepted (smallest-unique (λ x y. (λ k. k, λ k. k)) (means (w .0) (w .1) .0) (h .0))
+
+-- so `normalise` gives a smallest octagon back, where the set is on the map
+pub smallest-again : {a : Octagon} {A : Cells} → Smallest a A → A ⊆ OnMap → normalised a ≡ accepted a
+smallest-again {a} s m =
+    smallest-accepted a a .1 (smallest-own a a .1 (smallest-normalised s, λ x y. (λ i. i, λ i. i)), smallest-on-map s m)

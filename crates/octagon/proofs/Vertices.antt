@@ -49,7 +49,7 @@ pub normal-some : (c : Octagon) → Normal c → Some (In c)
 normal-some c n = let v = vertex-70 c n in record { x = v .x; y = v .y; cell = cell-in (v .inside) }
 
 -- a vertex as some cell of which more is said
-pub at : {c : Octagon} {a b : Diff} {P : ℤ → ℤ → Type 0} (v : Vertex c a b) → P (v .x) (v .y) → Some (λ x y. In c x y × P x y)
+at : {c : Octagon} {a b : Diff} {P : ℤ → ℤ → Type 0} (v : Vertex c a b) → P (v .x) (v .y) → Some (λ x y. In c x y × P x y)
 at v p = record { x = v .x; y = v .y; cell = (cell-in (v .inside), p) }
 
 pub normal-reached : (c : Octagon) → Normal c → Reached c

@@ -7,11 +7,12 @@ use Rattle.integers.proofs.Parts.{eq-parts, parts-eq}
 use Rattle.octagon.specs.declared.Octagon.{Octagon}
 use Rattle.octagon.specs.Outcome.{accepted, refused, off-map}
 use Rattle.octagon.specs.Cells.{_≐_, In, OnMap}
+use Rattle.octagon.specs.OneCell.{OneCell}
 use Rattle.octagon.proofs.Within.{Within, within, cell-in}
 use Rattle.outline.specs.Closing.{Closes}
 use Rattle.outline.specs.Walk.{InsideWalk}
 use Rattle.outline.specs.Tracing.{drawn, traced}
-use Rattle.outline.specs.Meaning.{no-sides, OneCell}
+use Rattle.outline.specs.Meaning.{no-sides}
 use Rattle.outline.proofs.Drawn.{Drawn, closed-drawn}
 use Rattle.outline.proofs.Inside.{inside-walk}
 use Rattle.outline.proofs.Tracings.{accepted-means, accepted-when, refused-off-map}

@@ -34,10 +34,6 @@ pub record PastStart (o : Outline) (x y : ℤ) : Type 0 where
 abbrev pub no-sides : ℤ → ℤ → Outline
 no-sides i j = with-sides i j []
 
--- "one cell": the cell (i, j) alone
-abbrev pub OneCell : ℤ → ℤ → Cells
-OneCell i j x y = (x ≡ i) × (y ≡ j)
-
 -- ---- the vertices
 
 -- the cell (x, y) reaches bound k

@@ -15,7 +15,7 @@ use Rattle.octagon.specs.Outcome.{Outcome, accepted, refused}
 use Rattle.octagon.specs.Cells.{_⊆_, _≐_, OnMap, Smallest}
 use Rattle.octagon.specs.NormalForm.{normalised}
 use Rattle.octagon.proofs.Outcomes.{accepted-same, accepted-not-refused}
-use Rattle.octagon.proofs.Smallest.{smallest-unique, smallest-same, smallest-normalised, smallest-on-map, smallest-own, smallest-accepted}
+use Rattle.octagon.proofs.Smallest.{smallest-unique, smallest-same, smallest-again}
 use Rattle.tape.specs.Enclosing.{points, enclosed-points, enclosed}
 use Rattle.tape.specs.Cases.{point, Inside, InsideUpTo, TapeCells, WholePoints, EncloseCase, is-empty, is-odd, is-unmeasured, is-outside, is-plot}
 use Rattle.tape.proofs.Points.{points-length, points-at, enclosed-none, enclosed-half, enclosed-even}
@@ -146,6 +146,4 @@ enclosed-means t a q = let p = enclosed-plot t a q in (p .smallest, inside-cells
 
 -- it is normalised and on the map: `normalise` gives it back
 pub enclosed-normalised : (t : List Float) (a : Octagon) → enclosed t ≡ accepted a → normalised a ≡ accepted a
-enclosed-normalised t a q =
-    let m = enclosed-means t a q in
-    smallest-accepted a a .1 (smallest-own a a .1 (smallest-normalised (m .0), λ x y. (λ i. i, λ i. i)), smallest-on-map (m .0) (m .1))
+enclosed-normalised t a q = let m = enclosed-means t a q in smallest-again (m .0) (m .1)

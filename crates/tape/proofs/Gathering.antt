@@ -11,9 +11,10 @@ use lib.Ieee.{nan}
 use Rattle.octagon.specs.declared.Octagon.{Octagon}
 use Rattle.octagon.specs.Outcome.{Outcome, accepted, refused}
 use Rattle.octagon.specs.Cells.{Cells, _≐_, Either, Smallest}
+use Rattle.octagon.specs.OneCell.{one-cell}
 use Rattle.octagon.proofs.Smallest.{smallest-same}
 use Rattle.outline.specs.declared.place.Place.{Place}
-use Rattle.tape.specs.Hull.{one-cell, hull}
+use Rattle.tape.specs.Hull.{hull}
 use Rattle.tape.specs.Enclosing.{gathered, enclosed-points}
 use Rattle.tape.specs.Cases.{CellOf, Inside}
 use Rattle.tape.proofs.Hulls.{hull-smallest}

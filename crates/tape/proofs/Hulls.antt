@@ -1,80 +1,17 @@
--- The octagon of one cell is the smallest that holds it, and is placed where the cell is on the map; the hull of two smallest octagons is
--- the smallest of both sets. Assumes nothing.
-use mathlib.Core.Path.{_≡_, refl, sym, _∙_}
-use mathlib.Core.Bool.{true}
-use mathlib.Core.Logic.{_↔_, inl, inr}
+-- The hull of two smallest octagons is the smallest of both sets. Assumes nothing.
+use mathlib.Core.Path.{_≡_}
+use mathlib.Core.Logic.{inl, inr}
 use lib.IntN.{ℤ, negℤ, _+ℤ_, _-ℤ_}
-use lib.Signed.{≤ℤ-refl}
 use mir.Syntax.{Width}
 use mir.Val.{SFits}
 use Rattle.integers.specs.Minimum.{maxℤ}
 use Rattle.integers.proofs.Minimum.{max-ind, max-left, max-right}
-use Rattle.integers.proofs.Tests.{cases, true-is-not-false}
 use Rattle.octagon.specs.declared.Octagon.{Octagon}
-use Rattle.octagon.specs.Outcome.{accepted, refused, off-map}
-use Rattle.octagon.specs.Cells.{Cells, Either, Some, In, OnMap, Smallest}
-use Rattle.octagon.specs.NormalForm.{is-on-map, placed}
+use Rattle.octagon.specs.Cells.{Cells, Either, Some, In, Smallest}
 use Rattle.octagon.specs.Widths.{Held}
-use Rattle.octagon.proofs.Map.{on-map-exactly}
 use Rattle.octagon.proofs.Unique.{AtMost}
-use Rattle.octagon.proofs.Smallest.{at-most-in, some-in, smallest-when, smallest-normalised, smallest-on-map}
-use Rattle.outline.specs.Meaning.{OneCell}
-use Rattle.tape.specs.Hull.{one-cell, hull}
-
--- ---- one cell
-
-one-cell-in : (x y : ℤ) → In (one-cell x y) x y
-one-cell-in x y = record {
-  in0 = ≤ℤ-refl (negℤ y);
-  in1 = ≤ℤ-refl (x -ℤ y);
-  in2 = ≤ℤ-refl x;
-  in3 = ≤ℤ-refl (x +ℤ y);
-  in4 = ≤ℤ-refl y;
-  in5 = ≤ℤ-refl (negℤ x +ℤ y);
-  in6 = ≤ℤ-refl (negℤ x);
-  in7 = ≤ℤ-refl (negℤ x -ℤ y);
-}
-
--- the one cell reaches what is said of it
-at-cell : {P : Cells} (x y : ℤ) → P x y → Some (λ u v. OneCell x y u v × P u v)
-at-cell x y p = record { x = x; y = y; cell = ((refl, refl), p) }
-
-pub one-cell-smallest : (x y : ℤ) → Smallest (one-cell x y) (OneCell x y)
-one-cell-smallest x y =
-    smallest-when (λ u v h. rw (h .0, h .1) (one-cell-in x y))
-    (record {
-      reached0 = at-cell x y refl;
-      reached1 = at-cell x y refl;
-      reached2 = at-cell x y refl;
-      reached3 = at-cell x y refl;
-      reached4 = at-cell x y refl;
-      reached5 = at-cell x y refl;
-      reached6 = at-cell x y refl;
-      reached7 = at-cell x y refl;
-    })
-
--- ---- one cell on the map
-
--- the test on the bounds of one cell tells whether the cell is on the map
-one-cell-test : (x y : ℤ) → (is-on-map (one-cell x y) ≡ true) ↔ OnMap x y
-one-cell-test x y =
-    let s = one-cell-smallest x y in
-    let e = on-map-exactly (one-cell x y) (smallest-normalised s) in
-    (λ h. e .0 h x y (s .holds x y (refl, refl)), λ m. e .1 (smallest-on-map s (λ u v h. rw (h .0, h .1) m)))
-
-pub placed-on : (x y : ℤ) → OnMap x y → placed (one-cell x y) ≡ accepted (one-cell x y)
-unfolding placed
-placed-on x y m = rw (one-cell-test x y .1 m)
-
-pub placed-off : (x y : ℤ) → ¬ (OnMap x y) → placed (one-cell x y) ≡ refused off-map
-unfolding placed
-placed-off x y n = cases (is-on-map (one-cell x y)) (λ h. absurd (n (one-cell-test x y .0 h))) (λ h. rw h)
-
-pub on-or-off : {R : Type 0} (x y : ℤ) → (OnMap x y → R) → (¬ (OnMap x y) → R) → R
-on-or-off x y f g =
-    cases (is-on-map (one-cell x y)) (λ h. f (one-cell-test x y .0 h)) (λ h. g (λ m. true-is-not-false (sym (one-cell-test x y .1 m) ∙ h)))
-
--- ---- the hull of two
+use Rattle.octagon.proofs.Smallest.{at-most-in, some-in, smallest-when}
+use Rattle.tape.specs.Hull.{hull}
 
 hull-left : (a b : Octagon) → AtMost a (hull a b)
 unfolding hull

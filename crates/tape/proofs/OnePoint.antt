@@ -6,15 +6,14 @@ use lib.IntN.{ℤ}
 use lib.Ieee.{Float, nan, inf, fin}
 use Rattle.octagon.specs.Outcome.{accepted, refused, off-map}
 use Rattle.octagon.specs.Cells.{Smallest}
+use Rattle.octagon.specs.OneCell.{OneCell, one-cell}
 use Rattle.octagon.proofs.Smallest.{smallest-same}
+use Rattle.octagon.proofs.OneCell.{one-cell-smallest, placed-on, placed-off, on-or-off}
 use Rattle.outline.specs.declared.place.Place.{Place}
-use Rattle.outline.specs.Meaning.{OneCell}
 use Rattle.tape.specs.Snapping.{snapped, not-finite}
-use Rattle.tape.specs.Hull.{one-cell}
 use Rattle.tape.specs.Enclosing.{point-cell}
 use Rattle.tape.specs.Cases.{CellOf, Unmeasured, Outside, Inside}
 use Rattle.tape.proofs.Coordinates.{in-cell-exactly, in-cell-only, snap-refused}
-use Rattle.tape.proofs.Hulls.{one-cell-smallest, placed-on, placed-off, on-or-off}
 
 -- a coordinate has a cell, or it is not finite
 pub snapped-or : (e : Float) → ((z : ℤ) × (snapped e ≡ accepted z)) ⊎ (snapped e ≡ refused not-finite)

@@ -2,47 +2,22 @@
 use mathlib.Core.Path.{_≡_, sym, _∙_}
 use mathlib.Core.Bool.{true, false, _&&_}
 use mathlib.Core.Logic.{inl, inr, ⊎-elim}
-use Prim.Native.Nat.{_+_}
 use native.Mathlib.Omega.{arith}
-use lib.IntN.{ℤ, negℤ, _+ℤ_, _-ℤ_}
+use lib.IntN.{ℤ}
 use lib.Ieee.{Float}
 use lib.Ieee.Scale.{finite}
-use mir.Syntax.{w32}
-use mir.Val.{SFits}
-use Rattle.integers.proofs.Parts.{sum-parts, diff-parts, neg-up, neg-dn}
-use Rattle.integers.proofs.Linear.{#, neg, lit, _≼_}
-use Rattle.integers.proofs.Range.{near-fits}
 use Rattle.integers.proofs.Tests.{cases, true-is-not-false, both-true, and-true}
 use Rattle.octagon.specs.Outcome.{accepted, refused, off-map}
-use Rattle.octagon.specs.Cells.{OnMap, limit}
-use Rattle.octagon.specs.Widths.{Held}
+use Rattle.octagon.specs.Cells.{OnMap}
+use Rattle.octagon.specs.OneCell.{one-cell}
 use Rattle.octagon.proofs.Within.{on-grid, on-map}
 use Rattle.outline.specs.declared.place.Place.{Place}
 use Rattle.tape.specs.Snapping.{snapped, not-finite, within-edges}
-use Rattle.tape.specs.Hull.{one-cell}
 use Rattle.tape.specs.Enclosing.{point-cell}
 use Rattle.tape.specs.Cases.{CellOf}
 use Rattle.tape.proofs.Between.{between-exactly}
 use Rattle.tape.proofs.Coordinates.{in-cell-exactly, snap-refused}
 use Rattle.tape.proofs.OnePoint.{snapped-or, unmeasured, outside, point-inside, point-fault}
-
--- the bounds of a cell on the map fit 32 bits
-pub one-cell-held : (x y : ℤ) → OnMap x y → Held w32 (one-cell x y)
-one-cell-held x y m =
-    let g = on-grid m in
-    record {
-      held0 = fits (negℤ y) (omega (arith, neg-up y, neg-dn y)) (omega (arith, neg-up y, neg-dn y));
-      held1 = fits (x -ℤ y) (omega (arith, diff-parts x y)) (omega (arith, diff-parts x y));
-      held2 = fits x (omega arith) (omega arith);
-      held3 = fits (x +ℤ y) (omega (arith, sum-parts x y)) (omega (arith, sum-parts x y));
-      held4 = fits y (omega arith) (omega arith);
-      held5 = fits (negℤ x +ℤ y) (omega (arith, sum-parts (negℤ x) y, neg-up x, neg-dn x)) (omega (arith, sum-parts (negℤ x) y, neg-up x, neg-dn x));
-      held6 = fits (negℤ x) (omega (arith, neg-up x, neg-dn x)) (omega (arith, neg-up x, neg-dn x));
-      held7 = fits (negℤ x -ℤ y) (omega (arith, diff-parts (negℤ x) y, neg-up x, neg-dn x)) (omega (arith, diff-parts (negℤ x) y, neg-up x, neg-dn x));
-    }
-  where
-    fits : (z : ℤ) → # z ≼ lit (limit + limit) → neg (# z) ≼ lit (limit + limit) → SFits w32 z
-    fits z h l = near-fits w32 (limit + limit) z (omega arith) h l
 
 -- both coordinates are between the map's edges: the cell is on the map, and it is the point's
 pub tests-on : (p : Place) (x y : ℤ) → within-edges (p .east) ≡ true → within-edges (p .north) ≡ true →

@@ -9,9 +9,10 @@ use lib.Ieee.{Float, nan}
 use Rattle.octagon.specs.declared.Octagon.{Octagon}
 use Rattle.octagon.specs.Outcome.{Outcome, accepted, refused, then}
 use Rattle.octagon.specs.NormalForm.{placed}
+use Rattle.octagon.specs.OneCell.{one-cell}
 use Rattle.outline.specs.declared.place.Place.{Place}
 use Rattle.tape.specs.Snapping.{snapped}
-use Rattle.tape.specs.Hull.{one-cell, hull}
+use Rattle.tape.specs.Hull.{hull}
 
 -- the refusal numbers of a tape without a point, and of one that ends in half a point
 abbrev pub no-point : ℕ

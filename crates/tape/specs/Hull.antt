@@ -1,20 +1,6 @@
--- Octagons of one cell, and the bounds that two octagons reach between them. Assumes nothing.
-use lib.IntN.{ℤ, negℤ, _+ℤ_, _-ℤ_}
+-- The bounds that two octagons reach between them. Assumes nothing.
 use Rattle.integers.specs.Minimum.{maxℤ}
 use Rattle.octagon.specs.declared.Octagon.{Octagon}
-
--- the octagon of the one cell (x, y)
-abbrev pub one-cell : ℤ → ℤ → Octagon
-one-cell x y = record {
-  c0 = negℤ y;
-  c1 = x -ℤ y;
-  c2 = x;
-  c3 = x +ℤ y;
-  c4 = y;
-  c5 = negℤ x +ℤ y;
-  c6 = negℤ x;
-  c7 = negℤ x -ℤ y;
-}
 
 -- the octagon that reaches what either reaches, bound by bound
 unfoldable pub hull : Octagon → Octagon → Octagon

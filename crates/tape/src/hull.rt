@@ -1,6 +1,7 @@
 // Octagons of one cell, and the octagon that reaches what either of two reaches.
 ghost use mathlib.Core.Path.{_≡_};
 ghost use mir.Syntax.{w32};
+ghost use Rattle.octagon.specs.OneCell.{«one-cell»};
 ghost use Rattle.octagon.specs.Widths.{Held};
 ghost use Rattle.tape.specs.Hull as hulls;
 use integers::greater;
@@ -8,8 +9,8 @@ use octagon::Octagon;
 
 // The octagon of the one cell (x, y), where its bounds fit.
 pub fn one_cell(x: i32, y: i32) -> Octagon
-    requires { ⌜ Held w32 (hulls.one-cell x y) ⌝ }
-    ensures { λ r. ⌜ r ≡ hulls.one-cell x y ⌝ }
+    requires { ⌜ Held w32 («one-cell» x y) ⌝ }
+    ensures { λ r. ⌜ r ≡ «one-cell» x y ⌝ }
 {
     Octagon {
         c0: -y,

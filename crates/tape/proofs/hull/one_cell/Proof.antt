@@ -7,7 +7,7 @@ use mir.Facts.{toZ-ofZ}
 use Rattle.integers.proofs.Range.{minus, negated, minus-both}
 use Rattle.octagon.specs.Widths.{Held}
 use Rattle.octagon.proofs.Fields.{stored}
-use Rattle.tape.specs.Hull.{one-cell}
+use Rattle.octagon.specs.OneCell.{one-cell}
 use Rattle.tape.proofs.hull.one_cell.Statement.{statement}
 use Rattle.tape.proofs.hull.one_cell.Tie as tie
 

@@ -8,8 +8,9 @@ use Rattle.integers.proofs.Range.{kept}
 use Rattle.integers.proofs.Tests.{both-true}
 use Rattle.octagon.specs.Cells.{OnMap}
 use Rattle.octagon.specs.Outcome.{accepted}
+use Rattle.octagon.proofs.OneCell.{one-cell-held}
 use Rattle.tape.specs.Snapping.{within-edges}
-use Rattle.tape.proofs.PointTests.{one-cell-held, tests-on, tests-inside, tests-outside, tests-unmeasured}
+use Rattle.tape.proofs.PointTests.{tests-on, tests-inside, tests-outside, tests-unmeasured}
 use Rattle.tape.proofs.point.cell_of.Statement.{statement}
 use Rattle.tape.proofs.point.cell_of.Tie as tie
 
