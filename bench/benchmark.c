@@ -66,7 +66,8 @@ static void fill_trees(void) {
 }
 
 typedef uint32_t of_one(const int32_t *, size_t, int32_t *, size_t);
-typedef uint32_t of_two(const int32_t *, size_t, const int32_t *, size_t, int32_t *, size_t);
+typedef uint32_t trimmer(const int32_t *, size_t, const int32_t *, size_t, int32_t *, size_t);
+typedef uint32_t spreader(const int32_t *, size_t, const int32_t *, size_t, int32_t *, size_t, uint32_t *);
 typedef uint32_t counter(const int32_t *, size_t, uint32_t *);
 typedef uint32_t splitter(const int32_t *, size_t, int32_t *, size_t, uint32_t *, size_t);
 typedef uint32_t encloser(const double *, size_t, int32_t *, size_t);
@@ -91,12 +92,22 @@ static double time_count(counter *f) {
     return (now() - at) / INPUTS;
 }
 
-static double time_two(of_two *f) {
+static double time_trim(trimmer *f) {
     int32_t out[8] = {0};
     uint32_t sum = 0;
     double at = now();
     for (int i = 0; i < INPUTS; i++)
         sum += f(plots[i], 8, elements[i], 8, out, 8) + (uint32_t)out[i % 8];
+    sink = sum;
+    return (now() - at) / INPUTS;
+}
+
+static double time_spread(spreader *f) {
+    int32_t out[8] = {0};
+    uint32_t sum = 0, mark = 0;
+    double at = now();
+    for (int i = 0; i < INPUTS; i++)
+        sum += f(plots[i], 8, elements[i], 8, out, 8, &mark) + (uint32_t)out[i % 8] + mark;
     sink = sum;
     return (now() - at) / INPUTS;
 }
@@ -138,10 +149,10 @@ int main(void) {
     printf("%-12s %12s %12s %8s\n", "ns per call", "proved", "plain C", "ratio");
     COMPARE("normalise", TURNS, time_one, kx_normalise, plain_normalise);
     COMPARE("count", TURNS, time_count, kx_count, plain_count);
-    COMPARE("dilate", TURNS, time_two, kx_dilate, plain_dilate);
-    COMPARE("erode", TURNS, time_two, kx_erode, plain_erode);
-    COMPARE("opening", TURNS, time_two, kx_opening, plain_opening);
-    COMPARE("closing", TURNS, time_two, kx_closing, plain_closing);
+    COMPARE("dilate", TURNS, time_spread, kx_dilate, plain_dilate);
+    COMPARE("erode", TURNS, time_trim, kx_erode, plain_erode);
+    COMPARE("opening", TURNS, time_spread, kx_opening, plain_opening);
+    COMPARE("closing", TURNS, time_spread, kx_closing, plain_closing);
     COMPARE("split", TURNS, time_split, kx_decompose, plain_decompose);
     COMPARE("enclose", TURNS, time_enclose, kx_enclose, plain_enclose);
     COMPARE("clearance", TURNS, time_clearance, kx_clearance, plain_clearance);

@@ -91,15 +91,17 @@ uint64_t number_of(const cells *a) {
 }
 
 /* two or more cells, all with one x - y, or with one x + y */
-int is_rising(const cells *a) {
+static int is_rising(const cells *a) {
     int64_t c[8];
     return number_of(a) >= 2 && reached(a, c) && c[1] == -c[5];
 }
 
-int is_falling(const cells *a) {
+static int is_falling(const cells *a) {
     int64_t c[8];
     return number_of(a) >= 2 && reached(a, c) && c[3] == -c[7];
 }
+
+int are_opposed(const cells *a, const cells *b) { return (is_rising(a) && is_falling(b)) || (is_falling(a) && is_rising(b)); }
 
 void dilated(const cells *a, const cells *b, cells *out) {
     memset(out, 0, sizeof *out);
@@ -154,7 +156,7 @@ int is_octagon(const cells *a) {
 }
 
 answer place(const cells *a, uint32_t none) {
-    answer r = {0, {0}};
+    answer r = {.number = 0};
     if (!reached(a, r.c))
         r.number = none;
     else if (r.c[0] > LIMIT || r.c[2] > LIMIT || r.c[4] > LIMIT || r.c[6] > LIMIT)
@@ -162,11 +164,16 @@ answer place(const cells *a, uint32_t none) {
     return r;
 }
 
+answer place_sums(const cells *sums) {
+    answer r = place(sums, 1);
+    r.filled = !is_octagon(sums);
+    return r;
+}
+
 answer dilation_of_cells(const cells *a, const cells *b) {
-    cells sum;
-    answer opposed = {4, {0}};
-    dilated(a, b, &sum);
-    return is_octagon(&sum) ? place(&sum, 1) : opposed;
+    cells sums;
+    dilated(a, b, &sums);
+    return place_sums(&sums);
 }
 
 answer opening_of_cells(const cells *p, const cells *f) {
@@ -179,12 +186,14 @@ answer opening_of_cells(const cells *p, const cells *f) {
     return dilation_of_cells(&left, f);
 }
 
-answer closing_of_cells(const cells *p, const cells *f) {
-    cells sum, left;
-    answer first = dilation_of_cells(p, f);
+answer closing_of_cells(const cells *p, const cells *f, cells *closed) {
+    cells sums;
+    dilated(p, f, &sums);
+    answer first = place_sums(&sums);
     if (first.number)
         return first;
-    dilated(p, f, &sum);
-    eroded(&sum, f, &left);
-    return place(&left, 5);
+    eroded(&sums, f, closed);
+    answer r = place(closed, 5);
+    r.filled = first.filled;
+    return r;
 }

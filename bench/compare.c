@@ -5,6 +5,7 @@
 #include <stdlib.h>
 
 uint64_t octagons_by_cells, pairs_by_cells, outlines_by_cells, splits_by_cells, trees_by_cells, listings, widened;
+uint64_t filled[SPREADS], filled_by_cells, filled_off_map;
 static uint64_t compared, accepted, seen[256];
 
 void differ(const char *call, const int32_t *p, const int32_t *f, uint32_t got, uint32_t want) {
@@ -36,11 +37,9 @@ int main(int argc, char **argv) {
     compare_constants();
     for (uint64_t i = 0; i < rounds; i++) {
         int32_t p[8], f[8];
-        int rows = any() % 8 == 0;
-        random_bounds(p, 20, rows);
-        random_bounds(f, any() % 2 ? 8 : 3, rows);
+        uint32_t n = random_pair(p, f);
         compare_one(p, i);
-        compare_two(p, f);
+        compare_two(p, f, n);
         compare_outline();
         if (i % 64 == 0)
             compare_lengths(p, f);
@@ -56,6 +55,7 @@ int main(int argc, char **argv) {
     compare_radii();
     printf("inputs %llu, calls compared %llu, accepted %llu, no difference\n", (unsigned long long)(rounds + sheets + tapes + trees), (unsigned long long)compared, (unsigned long long)accepted);
     printf("by sets of cells: octagons %llu, pairs %llu, outlines %llu, splits %llu, trees %llu\n", (unsigned long long)octagons_by_cells, (unsigned long long)pairs_by_cells, (unsigned long long)outlines_by_cells, (unsigned long long)splits_by_cells, (unsigned long long)trees_by_cells);
+    printf("filled: dilate %llu, opening %llu, closing %llu, dilate_n %llu; by sets of cells %llu; refused as off the map %llu\n", (unsigned long long)filled[DILATE], (unsigned long long)filled[OPENING], (unsigned long long)filled[CLOSING], (unsigned long long)filled[DILATE_N], (unsigned long long)filled_by_cells, (unsigned long long)filled_off_map);
     printf("listings %llu, sheets of 24 written anew %llu\n", (unsigned long long)listings, (unsigned long long)widened);
     printf("answers");
     for (int k = 0; k < 256; k++)

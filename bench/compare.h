@@ -18,6 +18,8 @@ void random_plot(plot *p);
 void random_tape(double *tape, size_t len);
 /* A tree, mostly on the map and often at its edge (input_trees.c). */
 void random_tree(tree *t);
+/* Two operands, and how often one is spread or trimmed by the other; often opposed diagonal rows (input_pairs.c). */
+uint32_t random_pair(int32_t p[8], int32_t f[8]);
 
 /* ---- sheets (input_sheets.c) */
 
@@ -33,6 +35,10 @@ void spoil_bytes(uint8_t *s, size_t len);
 /* ---- what was compared (compare.c) */
 
 extern uint64_t octagons_by_cells, pairs_by_cells, outlines_by_cells, splits_by_cells, trees_by_cells, listings, widened;
+/* The calls with a spread in them: how many answers of each are filled, how many of these were worked out by cells too, and how many
+ * spreads of opposed rows leave the map. */
+enum { DILATE, OPENING, CLOSING, DILATE_N, SPREADS };
+extern uint64_t filled[SPREADS], filled_by_cells, filled_off_map;
 /* Writes the difference and ends the program. */
 void differ(const char *call, const int32_t *p, const int32_t *f, uint32_t got, uint32_t want);
 void count_answer(uint32_t number);
@@ -63,7 +69,7 @@ uint32_t compare_insert(const plot *p, size_t room, size_t *len);
  * compare_tapes.c, compare_trees.c) */
 
 void compare_one(const int32_t c[8], uint64_t round);
-void compare_two(const int32_t p[8], const int32_t f[8]);
+void compare_two(const int32_t p[8], const int32_t f[8], uint32_t n);
 void compare_outline(void);
 /* Slices of wrong lengths. */
 void compare_lengths(const int32_t p[8], const int32_t f[8]);

@@ -111,7 +111,7 @@ void compare_outline(void) {
     uint32_t n[8], longest = 0;
     int small = any() % 2;
     random_outline(start, n, small ? 6 : any() % 2 ? 3000 : 20000);
-    answer want = {walk_refusal(start, n), {0}};
+    answer want = {.number = walk_refusal(start, n)};
     if (!want.number) {
         bounds_of_walk(start, n, want.c);
         for (int k = 0; k < 8; k++)

@@ -12,10 +12,11 @@ enum { LIMIT = 16000, FOLDS = 65535, RADIUS = 255, SHEET = 65536, RECORD = 26, B
 /* The most records of a sheet. */
 enum { MOST_PLOTS = (SHEET - TRAILER) / BASE_RECORD };
 
-/* What a call answers: a number, and where it is 0 the normalised bounds. */
+/* What a call answers: a number, and where it is 0 the normalised bounds, and whether a spread has filled them. */
 typedef struct {
     uint32_t number;
     int64_t c[8];
+    int filled;
 } answer;
 
 /* A plot: its number, start, sides and fee row. */
@@ -58,17 +59,20 @@ cells cornered(const cells *a);
 /* The bounds that cells reach; 0 where there is no cell. */
 int reached(const cells *a, int64_t c[8]);
 uint64_t number_of(const cells *a);
-int is_rising(const cells *a);
-int is_falling(const cells *a);
+/* Whether one has two or more cells all on one line x - y, and the other two or more all on one line x + y. */
+int are_opposed(const cells *a, const cells *b);
 void dilated(const cells *a, const cells *b, cells *out);
 void eroded(const cells *a, const cells *b, cells *out);
 /* Whether the cells are all those within the bounds that they reach. */
 int is_octagon(const cells *a);
 /* 1, 2 or the bounds of cells; none is the number where there are none. */
 answer place(const cells *a, uint32_t none);
+/* 2 or the bounds of sums: filled where the sums are not all the cells within them. */
+answer place_sums(const cells *sums);
 answer dilation_of_cells(const cells *a, const cells *b);
 answer opening_of_cells(const cells *p, const cells *f);
-answer closing_of_cells(const cells *p, const cells *f);
+/* The erosion of the sums themselves, holes and all, with their mark; and its cells where it is accepted. */
+answer closing_of_cells(const cells *p, const cells *f, cells *closed);
 int same_cells(const cells *a, const cells *b);
 
 /* ---- by walking */
@@ -83,8 +87,12 @@ void walked(const int32_t start[2], const uint32_t sides[8], cells *out);
 /* ---- by search */
 
 answer normal_by_search(const int64_t c[8]);
+/* Filled where n is at least 1 and the operands are opposed rows, by what their bounds say of their cells. */
 answer dilation_by_search(const int32_t p[8], const int32_t f[8], uint32_t n);
 answer erosion_by_search(const int32_t p[8], const int32_t f[8], uint32_t n);
+answer opening_by_search(const int32_t p[8], const int32_t f[8]);
+/* The plot's own cells, with the dilation's refusals and its mark. */
+answer closing_by_search(const int32_t p[8], const int32_t f[8]);
 /* The corners of normalised bounds, from their lowest and highest rows and columns. */
 void corners_by_search(const int64_t c[8], int64_t at[8][2]);
 uint64_t count_by_rows(const int64_t c[8]);

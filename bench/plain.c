@@ -43,30 +43,38 @@ static uint32_t normalise_both(const int32_t p[8], const int32_t f[8], int32_t a
     return refused ? refused : normalise(f, b);
 }
 
-static uint32_t dilate(const int32_t p[8], const int32_t f[8], int32_t out[8]) {
+static int are_opposed(const int32_t a[8], const int32_t b[8]) { return (is_rising(a) && is_falling(b)) || (is_falling(a) && is_rising(b)); }
+
+/* The dilation and the erosion of normal forms. */
+static uint32_t dilate_forms(const int32_t a[8], const int32_t b[8], int32_t out[8], uint32_t *mark) {
+    int32_t sums[8];
+    for (int k = 0; k < 8; k++)
+        sums[k] = a[k] + b[k];
+    if (sums[0] > LIMIT || sums[2] > LIMIT || sums[4] > LIMIT || sums[6] > LIMIT)
+        return OFF_MAP;
+    memcpy(out, sums, sizeof sums);
+    *mark = are_opposed(a, b) ? FILLED : EXACT;
+    return 0;
+}
+
+static uint32_t erode_forms(const int32_t a[8], const int32_t b[8], int32_t out[8]) {
+    int32_t differences[8];
+    for (int k = 0; k < 8; k++)
+        differences[k] = a[k] - b[k];
+    uint32_t refused = normalise(differences, out);
+    return refused == NO_CELL ? NOTHING_LEFT : refused;
+}
+
+static uint32_t dilate(const int32_t p[8], const int32_t f[8], int32_t out[8], uint32_t *mark) {
     int32_t a[8], b[8];
     uint32_t refused = normalise_both(p, f, a, b);
-    if (refused)
-        return refused;
-    if ((is_rising(a) && is_falling(b)) || (is_falling(a) && is_rising(b)))
-        return OPPOSED_ROWS;
-    for (int k = 0; k < 8; k++)
-        a[k] += b[k];
-    if (a[0] > LIMIT || a[2] > LIMIT || a[4] > LIMIT || a[6] > LIMIT)
-        return OFF_MAP;
-    memcpy(out, a, sizeof a);
-    return 0;
+    return refused ? refused : dilate_forms(a, b, out, mark);
 }
 
 static uint32_t erode(const int32_t p[8], const int32_t f[8], int32_t out[8]) {
     int32_t a[8], b[8];
     uint32_t refused = normalise_both(p, f, a, b);
-    if (refused)
-        return refused;
-    for (int k = 0; k < 8; k++)
-        a[k] -= b[k];
-    refused = normalise(a, out);
-    return refused == NO_CELL ? NOTHING_LEFT : refused;
+    return refused ? refused : erode_forms(a, b, out);
 }
 
 static uint64_t triangle(int64_t n) { return (uint64_t)n * ((uint64_t)n + 1) / 2; }
@@ -93,30 +101,40 @@ uint32_t plain_count(const int32_t *bounds, size_t bounds_len, uint32_t *cells) 
     return plain_cells(bounds, cells);
 }
 
-static uint32_t opening(const int32_t p[8], const int32_t f[8], int32_t out[8]) {
-    int32_t left[8];
-    uint32_t refused = erode(p, f, left);
-    return refused ? refused : dilate(left, f, out);
+static uint32_t opening(const int32_t p[8], const int32_t f[8], int32_t out[8], uint32_t *mark) {
+    int32_t a[8], b[8], left[8];
+    uint32_t refused = normalise_both(p, f, a, b);
+    if (!refused)
+        refused = erode_forms(a, b, left);
+    return refused ? refused : dilate_forms(left, b, out, mark);
 }
 
-static uint32_t closing(const int32_t p[8], const int32_t f[8], int32_t out[8]) {
-    int32_t spread[8];
-    uint32_t refused = dilate(p, f, spread);
-    return refused ? refused : erode(spread, f, out);
+/* What was dilated can be eroded again, so that the mark is written where the call is accepted. */
+static uint32_t closing(const int32_t p[8], const int32_t f[8], int32_t out[8], uint32_t *mark) {
+    int32_t a[8], b[8], spread[8];
+    uint32_t refused = normalise_both(p, f, a, b);
+    if (!refused)
+        refused = dilate_forms(a, b, spread, mark);
+    return refused ? refused : erode_forms(spread, b, out);
 }
 
-/* A call of two operands, where the lengths of its slices are right. */
-#define ON_TWO(operation)                                                                                              \
-    uint32_t plain_##operation(const int32_t *plot, size_t plot_len, const int32_t *element, size_t element_len, int32_t *out, size_t out_len) { \
+uint32_t plain_erode(const int32_t *plot, size_t plot_len, const int32_t *element, size_t element_len, int32_t *out, size_t out_len) {
+    if (plot_len != 8 || element_len != 8 || out_len != 8)
+        return WRONG_LENGTH;
+    return erode(plot, element, out);
+}
+
+/* A call with a spread in it, where the lengths of its slices are right. */
+#define SPREADING(operation)                                                                                           \
+    uint32_t plain_##operation(const int32_t *plot, size_t plot_len, const int32_t *element, size_t element_len, int32_t *out, size_t out_len, uint32_t *mark) { \
         if (plot_len != 8 || element_len != 8 || out_len != 8)                                                         \
             return WRONG_LENGTH;                                                                                       \
-        return operation(plot, element, out);                                                                          \
+        return operation(plot, element, out, mark);                                                                    \
     }
 
-ON_TWO(dilate)
-ON_TWO(erode)
-ON_TWO(opening)
-ON_TWO(closing)
+SPREADING(dilate)
+SPREADING(opening)
+SPREADING(closing)
 
 static uint32_t smaller(uint32_t a, uint32_t b) { return a < b ? a : b; }
 

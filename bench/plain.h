@@ -5,14 +5,15 @@
 #include <stdint.h>
 
 enum { LIMIT = 16000, RADIUS_LIMIT = 255, SHEET_LIMIT = 65536, RECORD = 26, BASE_RECORD = 24, TRAILER = 16 };
-enum { NO_CELL = 1, OFF_MAP, NOT_CLOSED, OPPOSED_ROWS, NOTHING_LEFT, BAD_LENGTH = 8, BAD_TRAILER, BAD_DISTANCE, BAD_NUMBER, NO_ROOM, NOT_FINITE = 14, NO_POINT, HALF_POINT, TOO_WIDE, WRONG_LENGTH = 255 };
+enum { NO_CELL = 1, OFF_MAP, NOT_CLOSED, NOTHING_LEFT = 5, BAD_LENGTH = 8, BAD_TRAILER, BAD_DISTANCE, BAD_NUMBER, NO_ROOM, NOT_FINITE = 14, NO_POINT, HALF_POINT, TOO_WIDE, WRONG_LENGTH = 255 };
+enum { EXACT, FILLED };
 
 uint32_t plain_normalise(const int32_t *bounds, size_t bounds_len, int32_t *out, size_t out_len);
 uint32_t plain_count(const int32_t *bounds, size_t bounds_len, uint32_t *cells);
-uint32_t plain_dilate(const int32_t *plot, size_t plot_len, const int32_t *element, size_t element_len, int32_t *out, size_t out_len);
+uint32_t plain_dilate(const int32_t *plot, size_t plot_len, const int32_t *element, size_t element_len, int32_t *out, size_t out_len, uint32_t *mark);
 uint32_t plain_erode(const int32_t *plot, size_t plot_len, const int32_t *element, size_t element_len, int32_t *out, size_t out_len);
-uint32_t plain_opening(const int32_t *plot, size_t plot_len, const int32_t *element, size_t element_len, int32_t *out, size_t out_len);
-uint32_t plain_closing(const int32_t *plot, size_t plot_len, const int32_t *element, size_t element_len, int32_t *out, size_t out_len);
+uint32_t plain_opening(const int32_t *plot, size_t plot_len, const int32_t *element, size_t element_len, int32_t *out, size_t out_len, uint32_t *mark);
+uint32_t plain_closing(const int32_t *plot, size_t plot_len, const int32_t *element, size_t element_len, int32_t *out, size_t out_len, uint32_t *mark);
 uint32_t plain_decompose(const int32_t *bounds, size_t bounds_len, int32_t *start, size_t start_len, uint32_t *counts, size_t counts_len);
 uint32_t plain_sheet_check(const uint8_t *sheet, size_t room, size_t len, uint32_t *count);
 uint32_t plain_sheet_insert(uint8_t *sheet, size_t room, size_t len, uint32_t number, const int32_t *start, size_t start_len, const uint32_t *sides, size_t sides_len,

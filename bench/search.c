@@ -1,5 +1,6 @@
 /* Any eight bounds, by searching their rows and columns: no sum of bounds is halved, and none is tightened by another. */
 #include "oracle.h"
+#include <string.h>
 
 typedef __int128 wide;
 
@@ -66,7 +67,7 @@ static int lines(const int64_t c[8], end *low, end *high, int64_t a, int64_t b, 
 }
 
 answer normal_by_search(const int64_t c[8]) {
-    answer r = {1, {0}};
+    answer r = {.number = 1};
     int64_t y0, y1, x0, x1;
     if (!lines(c, row_low, row_high, -c[0], c[4], &y0, &y1) || !lines(c, column_low, column_high, -c[6], c[2], &x0, &x1))
         return r;
@@ -108,10 +109,7 @@ answer dilation_by_search(const int32_t p[8], const int32_t f[8], uint32_t n) {
     answer b, a = of_both(p, f, &b);
     if (a.number)
         return a;
-    if (n > 0 && ((is_row(a.c, 1) && is_row(b.c, 3)) || (is_row(a.c, 3) && is_row(b.c, 1)))) {
-        a.number = 4;
-        return a;
-    }
+    a.filled = n > 0 && ((is_row(a.c, 1) && is_row(b.c, 3)) || (is_row(a.c, 3) && is_row(b.c, 1)));
     for (int k = 0; k < 8; k++)
         a.c[k] += (int64_t)n * b.c[k];
     if (a.c[0] > LIMIT || a.c[2] > LIMIT || a.c[4] > LIMIT || a.c[6] > LIMIT)
@@ -129,6 +127,22 @@ answer erosion_by_search(const int32_t p[8], const int32_t f[8], uint32_t n) {
     if (a.number == 1)
         a.number = 5;
     return a;
+}
+
+answer opening_by_search(const int32_t p[8], const int32_t f[8]) {
+    answer left = erosion_by_search(p, f, 1);
+    int32_t c[8];
+    if (left.number)
+        return left;
+    for (int k = 0; k < 8; k++)
+        c[k] = (int32_t)left.c[k];
+    return dilation_by_search(c, f, 1);
+}
+
+answer closing_by_search(const int32_t p[8], const int32_t f[8]) {
+    answer plot = of_bounds(p), r = dilation_by_search(p, f, 1);
+    memcpy(r.c, plot.c, sizeof r.c);
+    return r;
 }
 
 void corners_by_search(const int64_t c[8], int64_t at[8][2]) {

@@ -75,7 +75,7 @@ static uint32_t point_refusal(const double *point, int64_t cell[2]) {
 }
 
 answer enclosed(const double *tape, size_t len) {
-    answer r = {len == 0 ? 15 : len % 2 ? 16 : 0, {0}};
+    answer r = {.number = len == 0 ? 15 : len % 2 ? 16 : 0};
     for (size_t i = 0; i < len && !r.number; i += 2) {
         int64_t cell[2];
         r.number = point_refusal(tape + i, cell);

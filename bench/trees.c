@@ -16,7 +16,7 @@ static void widen(int64_t c[8], int64_t x, int64_t y) {
 }
 
 answer clearance_by_cells(const tree *t) {
-    answer r = {first_refusal(t), {0}};
+    answer r = {.number = first_refusal(t)};
     int64_t x = t->x, y = t->y, radius = t->radius;
     if (r.number)
         return r;
@@ -43,7 +43,7 @@ static const int64_t *disc(uint32_t radius) {
 }
 
 answer clearance_by_discs(const tree *t) {
-    answer r = {first_refusal(t), {0}};
+    answer r = {.number = first_refusal(t)};
     if (r.number)
         return r;
     for (int k = 0; k < 8; k++)

@@ -110,12 +110,12 @@ void limits(void) {
     static uint8_t sheet[KX_SHEET_LIMIT];
     const int32_t edge[2] = {KX_MAP_LIMIT, 0}, past[2] = {KX_MAP_LIMIT + 1, 0};
     int32_t out[8] = {0};
-    uint32_t count = 0;
+    uint32_t count = 0, mark = 0;
     size_t len = 0, grown = 0;
     printf("map limit %d: %u", KX_MAP_LIMIT, kx_to_octagon(edge, 2, NONE, 8, out, 8));
     printf(", one more: %u\n", kx_to_octagon(past, 2, NONE, 8, out, 8));
-    printf("fold limit %d: %u", KX_FOLD_LIMIT, kx_dilate_n(ORIGIN, 8, ORIGIN, 8, KX_FOLD_LIMIT, out, 8));
-    printf(", one more: %u\n", kx_dilate_n(ORIGIN, 8, ORIGIN, 8, KX_FOLD_LIMIT + 1, out, 8));
+    printf("fold limit %d: %u", KX_FOLD_LIMIT, kx_dilate_n(ORIGIN, 8, ORIGIN, 8, KX_FOLD_LIMIT, out, 8, &mark));
+    printf(", one more: %u\n", kx_dilate_n(ORIGIN, 8, ORIGIN, 8, KX_FOLD_LIMIT + 1, out, 8, &mark));
     printf("radius limit %d: %u", KX_RADIUS_LIMIT, kx_clearance(0, 0, KX_RADIUS_LIMIT, out, 8));
     printf(", one more: %u\n", kx_clearance(0, 0, KX_RADIUS_LIMIT + 1, out, 8));
     printf("sheet limit %d: %u", KX_SHEET_LIMIT, kx_sheet_start(sheet, sizeof sheet, KX_SHEET_LIMIT - KX_TRAILER, &len));

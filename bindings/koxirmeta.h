@@ -17,6 +17,11 @@
  * OCTAGONS. Eight bounds c0 to c7, every value allowed: the cells (x, y) with -y <= c0, x-y <= c1, x <= c2, x+y <= c3, y <= c4,
  * -x+y <= c5, -x <= c6 and -x-y <= c7. Octagons that are written are normalised: each bound is reached by a cell.
  *
+ * MARKS. A spread says beside its octagon whether it is exact. A diagonal row is an octagon of two or more cells, all on one line
+ * x-y = constant or all on one line x+y = constant; two rows are opposed when one is of each kind. The sums of the cells of opposed
+ * rows have holes between them, so that no octagon has just these cells: the octagon written is then the smallest that holds them
+ * all, and the mark KX_FILLED. The cells of every other spread are the sums and no others, and the mark is KX_EXACT.
+ *
  * OUTLINES. A start (i, j), the lowest corner and of the lowest the leftmost, and eight side lengths, counter-clockwise from the
  * step (1, 0).
  *
@@ -55,13 +60,12 @@ enum { KX_BOUNDS = 8, KX_START = 2, KX_SIDES = 8, KX_COUNTS = 13, KX_PLACE = 2 }
  * KX_LINE bytes. */
 enum { KX_LINE = 273, KX_TEXT = KX_LINE * ((KX_SHEET_LIMIT - KX_TRAILER) / KX_BASE_RECORD + 2) };
 
-/* What a call returns. */
+/* What a call returns. No call answers 4. */
 enum {
     KX_ACCEPTED = 0,
     KX_NO_CELL = 1,          /* the bounds hold no cell */
     KX_OFF_MAP = 2,          /* some cell lies off the map: a coordinate is beyond KX_MAP_LIMIT */
     KX_NOT_CLOSED = 3,       /* the outline does not close */
-    KX_OPPOSED_ROWS = 4,     /* the operands are opposed diagonal rows */
     KX_NOTHING_LEFT = 5,     /* no position fits */
     KX_TOO_MANY_FOLDS = 6,   /* n is above KX_FOLD_LIMIT */
     KX_NO_VERTEX = 7,        /* the corner number is not below KX_SIDES */
@@ -78,27 +82,38 @@ enum {
     KX_WRONG_LENGTH = 255    /* a slice of the wrong length: the caller's mistake, and no number of the documents */
 };
 
+/* The marks: what a spread, and a call that has one in it, says of its octagon. */
+enum {
+    KX_EXACT = 0,            /* its cells are those of the set definition, and no others */
+    KX_FILLED = 1            /* opposed diagonal rows were spread: it is the smallest that holds those cells */
+};
+
 /* The normal form of eight bounds, to out[KX_BOUNDS]. Refusals: 1, 2. */
 uint32_t kx_normalise(const int32_t *bounds, size_t bounds_len, int32_t *out, size_t out_len);
 
 /* The number of cells, to *cells. Refusals: 1, 2. */
 uint32_t kx_count(const int32_t *bounds, size_t bounds_len, uint32_t *cells);
 
-/* Two operands of eight bounds each, the result to out[KX_BOUNDS]. Each operand's 1 and 2, the plot's first; then
- *   dilate   (spread)  every sum of a cell of the plot and a cell of the element: 4, then 2 for the result
+/* Two operands of eight bounds each, the result to out[KX_BOUNDS] and, but for erode, its mark to *mark. Each operand's 1 and 2, the
+ * plot's first; then
+ *   dilate   (spread)  every sum of a cell of the plot and a cell of the element, or the smallest octagon that holds them: 2 for the
+ *                      result. Filled exactly where the operands are opposed diagonal rows
  *   erode    (trim)    the positions at which the whole element stands inside the plot: 5, then 2 for the result
- *   opening            the erosion, and where that is accepted the dilation of what it left: the erosion's 5 and 2, then 4
- *   closing            the dilation, and where that is accepted the erosion of what it gave: the dilation's 4 and 2, never 5 */
-uint32_t kx_dilate(const int32_t *plot, size_t plot_len, const int32_t *element, size_t element_len, int32_t *out, size_t out_len);
+ *   opening            the erosion, and where that is accepted the dilation of what it left: the erosion's 5 and 2, and no other.
+ *                      The mark is the dilation's: filled exactly where what was left and the element are opposed diagonal rows
+ *   closing            the dilation, and where that is accepted the erosion of what it gave: the dilation's 2, never 5. The mark is
+ *                      the dilation's, and the cells are exact under either mark: they are the plot's own */
+uint32_t kx_dilate(const int32_t *plot, size_t plot_len, const int32_t *element, size_t element_len, int32_t *out, size_t out_len, uint32_t *mark);
 uint32_t kx_erode(const int32_t *plot, size_t plot_len, const int32_t *element, size_t element_len, int32_t *out, size_t out_len);
-uint32_t kx_opening(const int32_t *plot, size_t plot_len, const int32_t *element, size_t element_len, int32_t *out, size_t out_len);
-uint32_t kx_closing(const int32_t *plot, size_t plot_len, const int32_t *element, size_t element_len, int32_t *out, size_t out_len);
+uint32_t kx_opening(const int32_t *plot, size_t plot_len, const int32_t *element, size_t element_len, int32_t *out, size_t out_len, uint32_t *mark);
+uint32_t kx_closing(const int32_t *plot, size_t plot_len, const int32_t *element, size_t element_len, int32_t *out, size_t out_len, uint32_t *mark);
 
 /* n times by the same element, in constant time. 6 before all else, then each operand's 1 and 2; then
- *   dilate_n           4 where n is at least 1, then 2 for the final set
+ *   dilate_n           2 for the final set. Filled exactly where n is at least 1 and the operands are opposed diagonal rows: it is
+ *                      then the smallest octagon that holds every sum of a cell of the plot and n cells of the element
  *   erode_n            5, then 2, both for the final set
- * With n = 0 both give the plot, normalised. */
-uint32_t kx_dilate_n(const int32_t *plot, size_t plot_len, const int32_t *element, size_t element_len, uint32_t n, int32_t *out, size_t out_len);
+ * With n = 0 both give the plot, normalised, and dilate_n is exact. */
+uint32_t kx_dilate_n(const int32_t *plot, size_t plot_len, const int32_t *element, size_t element_len, uint32_t n, int32_t *out, size_t out_len, uint32_t *mark);
 uint32_t kx_erode_n(const int32_t *plot, size_t plot_len, const int32_t *element, size_t element_len, uint32_t n, int32_t *out, size_t out_len);
 
 /* The octagon of the outline start[KX_START], sides[KX_SIDES], to out[KX_BOUNDS]. Refusals: 3, 2. */

@@ -53,9 +53,45 @@ pub struct Plot {
     pub fee_row: u16,
 }
 
+/// What a spread gives: an octagon, and whether it is exact.
+///
+/// A diagonal row is an octagon of two or more cells, all on one line x-y = constant or all on one line x+y = constant; two rows are
+/// opposed when one is of each kind. The sums of the cells of opposed rows have holes between them, so that no octagon has just these
+/// cells. A spread of opposed rows is filled, and every other spread is exact. [`opening`], [`closing`] and [`dilate_n`] say what the
+/// spread in them says.
+#[derive(Clone, Copy, Debug, PartialEq, Eq, Hash)]
+pub enum Spread {
+    /// The octagon's cells are those of the set definition, and no others.
+    Exact(Bounds),
+    /// Opposed diagonal rows were spread: the octagon is the smallest that holds the cells of the set definition.
+    Filled(Bounds),
+}
+
+impl Spread {
+    /// The octagon, exact or filled.
+    pub fn bounds(self) -> Bounds {
+        match self {
+            Spread::Exact(bounds) | Spread::Filled(bounds) => bounds,
+        }
+    }
+
+    /// Whether it is filled.
+    pub fn is_filled(self) -> bool {
+        matches!(self, Spread::Filled(_))
+    }
+
+    /// What a call wrote: the bounds and the mark, which is 0 where they are exact and 1 where they are filled.
+    fn marked((bounds, mark): (Bounds, u32)) -> Spread {
+        match mark {
+            0 => Spread::Exact(bounds),
+            _ => Spread::Filled(bounds),
+        }
+    }
+}
+
 macro_rules! refusals {
     ($($(#[$attribute:meta])* $name:ident = $number:literal,)*) => {
-        /// Why a call was refused: a number of documents 01 and 02, or the caller's mistake.
+        /// Why a call was refused: a number of documents 01 and 02, or the caller's mistake. No call answers 4.
         #[non_exhaustive]
         #[derive(Clone, Copy, Debug, PartialEq, Eq, Hash)]
         pub enum Refusal {
@@ -99,8 +135,6 @@ refusals! {
     OffMap = 2,
     /// The outline does not close.
     NotClosed = 3,
-    /// The operands are opposed diagonal rows.
-    OpposedRows = 4,
     /// No position fits.
     NothingLeft = 5,
     /// n is above [`FOLD_LIMIT`].
@@ -138,7 +172,6 @@ impl fmt::Display for Refusal {
             Refusal::NoCell => write!(f, "the bounds hold no cell"),
             Refusal::OffMap => write!(f, "some cell lies off the map, a coordinate beyond {MAP_LIMIT} either way"),
             Refusal::NotClosed => write!(f, "the outline does not close"),
-            Refusal::OpposedRows => write!(f, "the operands are opposed diagonal rows"),
             Refusal::NothingLeft => write!(f, "no position fits"),
             Refusal::TooManyFolds => write!(f, "more than {FOLD_LIMIT} folds"),
             Refusal::NoVertex => write!(f, "the corner number is above 7"),
@@ -164,11 +197,11 @@ mod calls {
     unsafe extern "C" {
         pub fn kx_normalise(bounds: *const i32, bounds_len: usize, out: *mut i32, out_len: usize) -> u32;
         pub fn kx_count(bounds: *const i32, bounds_len: usize, cells: *mut u32) -> u32;
-        pub fn kx_dilate(p: *const i32, p_len: usize, f: *const i32, f_len: usize, out: *mut i32, out_len: usize) -> u32;
+        pub fn kx_dilate(p: *const i32, p_len: usize, f: *const i32, f_len: usize, out: *mut i32, out_len: usize, mark: *mut u32) -> u32;
         pub fn kx_erode(p: *const i32, p_len: usize, f: *const i32, f_len: usize, out: *mut i32, out_len: usize) -> u32;
-        pub fn kx_opening(p: *const i32, p_len: usize, f: *const i32, f_len: usize, out: *mut i32, out_len: usize) -> u32;
-        pub fn kx_closing(p: *const i32, p_len: usize, f: *const i32, f_len: usize, out: *mut i32, out_len: usize) -> u32;
-        pub fn kx_dilate_n(p: *const i32, p_len: usize, f: *const i32, f_len: usize, n: u32, out: *mut i32, out_len: usize) -> u32;
+        pub fn kx_opening(p: *const i32, p_len: usize, f: *const i32, f_len: usize, out: *mut i32, out_len: usize, mark: *mut u32) -> u32;
+        pub fn kx_closing(p: *const i32, p_len: usize, f: *const i32, f_len: usize, out: *mut i32, out_len: usize, mark: *mut u32) -> u32;
+        pub fn kx_dilate_n(p: *const i32, p_len: usize, f: *const i32, f_len: usize, n: u32, out: *mut i32, out_len: usize, mark: *mut u32) -> u32;
         pub fn kx_erode_n(p: *const i32, p_len: usize, f: *const i32, f_len: usize, n: u32, out: *mut i32, out_len: usize) -> u32;
         pub fn kx_to_octagon(start: *const i32, start_len: usize, sides: *const u32, sides_len: usize, out: *mut i32, out_len: usize) -> u32;
         pub fn kx_to_outline(bounds: *const i32, bounds_len: usize, start: *mut i32, start_len: usize, sides: *mut u32, sides_len: usize) -> u32;
@@ -209,7 +242,7 @@ pub fn count(bounds: &Bounds) -> Result<u32, Refusal> {
     answer(|cells: &mut u32| unsafe { calls::kx_count(bounds.as_ptr(), bounds.len(), cells) })
 }
 
-macro_rules! of_two {
+macro_rules! trims {
     ($(#[$attribute:meta])* $name:ident, $call:ident $(, $times:ident)?) => {
         $(#[$attribute])*
         pub fn $name(plot: &Bounds, element: &Bounds $(, $times: u32)?) -> Result<Bounds, Refusal> {
@@ -220,36 +253,52 @@ macro_rules! of_two {
     };
 }
 
-of_two! {
-    /// Every sum of a cell of the plot and a cell of the element (document 01's spread).
+macro_rules! spreads {
+    ($(#[$attribute:meta])* $name:ident, $call:ident $(, $times:ident)?) => {
+        $(#[$attribute])*
+        pub fn $name(plot: &Bounds, element: &Bounds $(, $times: u32)?) -> Result<Spread, Refusal> {
+            answer(|(out, mark): &mut (Bounds, u32)| unsafe {
+                calls::$call(plot.as_ptr(), plot.len(), element.as_ptr(), element.len(), $($times,)? out.as_mut_ptr(), out.len(), mark)
+            })
+            .map(Spread::marked)
+        }
+    };
+}
+
+spreads! {
+    /// Every sum of a cell of the plot and a cell of the element (document 01's spread); where the two are opposed diagonal rows, and
+    /// only there, the smallest octagon that holds the sums, which is filled.
     ///
-    /// Refusals: the plot's `NoCell` and `OffMap`, the element's, `OpposedRows`, and `OffMap` for the result.
+    /// Refusals: the plot's `NoCell` and `OffMap`, the element's, and `OffMap` for the result.
     dilate, kx_dilate
 }
-of_two! {
+trims! {
     /// The positions at which the whole element stands inside the plot (document 01's trim).
     ///
     /// Refusals: the plot's `NoCell` and `OffMap`, the element's, `NothingLeft`, and `OffMap` for the result.
     erode, kx_erode
 }
-of_two! {
-    /// The erosion, and where that is accepted the dilation of what it left.
+spreads! {
+    /// The erosion, and where that is accepted the dilation of what it left: filled where that dilation is.
     ///
-    /// Refusals: those of the erosion, then `OpposedRows`.
+    /// Refusals: those of the erosion, and no other.
     opening, kx_opening
 }
-of_two! {
-    /// The dilation, and where that is accepted the erosion of what it gave.
+spreads! {
+    /// The dilation, and where that is accepted the erosion of what it gave: filled where that dilation is. The cells are exact either
+    /// way, for they are the plot's own.
     ///
     /// Refusals: those of the dilation, and no other.
     closing, kx_closing
 }
-of_two! {
-    /// The dilation n times by the same element. Refusals: `TooManyFolds`, each operand's; then
-    /// `OpposedRows` where n is at least 1, and `OffMap` for the final set.
+spreads! {
+    /// The dilation n times by the same element: filled where n is at least 1 and the two are opposed diagonal rows. It is then the
+    /// smallest octagon that holds every sum of a cell of the plot and n cells of the element.
+    ///
+    /// Refusals: `TooManyFolds`, each operand's; then `OffMap` for the final set.
     dilate_n, kx_dilate_n, n
 }
-of_two! {
+trims! {
     /// The erosion n times by the same element. Refusals: `TooManyFolds`, each operand's; then
     /// `NothingLeft` and `OffMap`, both for the final set.
     erode_n, kx_erode_n, n

@@ -6,9 +6,10 @@ Run from the repository's root:
 
 It shares with the program the thirteen pieces, the sequence of drawn ones and the form of the output, and none of its
 code. A set is a Python set of cells (x, y) with no edge and no window. Sums, positions that fit, the cells to the left of a
-side and opposed diagonal rows are taken word for word from the definitions. The triangles of a split are picked from all the
-ways to take pieces from what the rows leave until nothing is left. "agreed" is the number of comparisons that the program
-makes, since every answer has to agree.
+side and opposed diagonal rows are taken word for word from the definitions; a spread is filled where its operands are opposed,
+and that no octagon has just its sums is asserted beside it. The triangles of a split are picked from all the ways to take
+pieces from what the rows leave until nothing is left. "agreed" is the number of comparisons that the program makes, since
+every answer has to agree.
 """
 
 from fractions import Fraction
@@ -78,11 +79,11 @@ def is_opposed(a, b):
     return (rising(a) and falling(b)) or (falling(a) and rising(b))
 
 
-# ---- answers: a list of ten numbers and the refusal number
+# ---- answers: a list of ten numbers, the refusal number, and the mark
 
 
-def row(numbers, number=0):
-    return numbers + [0] * (10 - len(numbers)) + [number]
+def row(numbers, number=0, filled=False):
+    return numbers + [0] * (10 - len(numbers)) + [number, int(filled)]
 
 
 def refused(number):
@@ -94,25 +95,46 @@ def lifted(numbers):
     return [n + 2**32 for n in numbers]
 
 
-def accepted(some):
+def bounded(some, filled):
+    """The bounds of cells with a mark, if they are on the map."""
+    return refused(2) if is_off_map(some) else row(lifted(tightest(some)), filled=filled)
+
+
+def accepted(some, filled=False):
+    """Cells that are those of an octagon."""
     assert is_octagon(some)
-    return refused(2) if is_off_map(some) else row(lifted(tightest(some)))
+    return bounded(some, filled)
 
 
 def normal(some):
     return accepted(some) if some else refused(1)
 
 
+def is_filled(a, b, folds, sums):
+    """Whether so many folds of two sets, and their sums, are filled."""
+    filled = folds > 0 and is_opposed(a, b)
+    assert filled != is_octagon(sums)
+    return filled
+
+
 def spread(a, b):
     """The answer to a spread of cells on the map."""
     sums = dilation(a, b)
-    assert is_octagon(sums) != is_opposed(a, b)
-    return refused(4) if is_opposed(a, b) else accepted(sums)
+    return bounded(sums, is_filled(a, b, 1, sums))
+
+
+def trimmed(left, filled=False):
+    return accepted(left, filled) if left else refused(5)
 
 
 def trim(a, b):
-    left = erosion(a, b)
-    return accepted(left) if left else refused(5)
+    return trimmed(erosion(a, b))
+
+
+def close(a, b):
+    """The answer to a closing whose spread is accepted."""
+    sums = dilation(a, b)
+    return trimmed(erosion(sums, b), is_filled(a, b, 1, sums))
 
 
 # ---- outlines
@@ -259,14 +281,19 @@ def drawn(draw, most):
 
 # ---- the tally
 
+# what is counted of a call: accepted ones as 0, and the refusals
+NUMBERS = [0, 1, 2, 3, 5, 6, 7]
+
 
 class Kind:
     def __init__(self):
-        self.numbers = [0] * 8
+        self.numbers = dict.fromkeys(NUMBERS, 0)
+        self.filled = 0
         self.digest = 0
 
     def note(self, expected, counts=()):
         self.numbers[expected[10]] += 1
+        self.filled += expected[11]
         for value in [*expected, *counts]:
             self.digest = (self.digest * 31 + value) % 1000000007
 
@@ -313,7 +340,7 @@ def compare_back(pair, some):
 def compare_steps(p, e):
     first = spread(p, e)
     CALLS["dilate"].note(first)
-    CALLS["closing"].note(first if first[10] else trim(dilation(p, e), e))
+    CALLS["closing"].note(first if first[10] else close(p, e))
     first = trim(p, e)
     CALLS["erode"].note(first)
     CALLS["opening"].note(first if first[10] else spread(erosion(p, e), e))
@@ -324,8 +351,8 @@ def compare_folds(p, e):
     for n in range(5):
         if n:
             more, less = dilation(more, e), erosion(less, e) if less else less
-        CALLS["dilate_n"].note(refused(4) if n and is_opposed(p, e) else accepted(more))
-        CALLS["erode_n"].note(accepted(less) if less else refused(5))
+        CALLS["dilate_n"].note(bounded(more, is_filled(p, e, n, more)))
+        CALLS["erode_n"].note(trimmed(less))
     CALLS["dilate_n"].note(refused(6))
     CALLS["erode_n"].note(refused(6))
 
@@ -349,9 +376,10 @@ def main():
     for pair in range(2500):
         plot = drawn(draw, 2)
         compare(pair, plot, drawn(draw, 1))
-    print("call         accepted, refused with 1 to 7, agreed, digest")
+    print("call         accepted, of these filled, refused with 1, 2, 3, 5, 6, 7, agreed, digest")
     for name, kind in CALLS.items():
-        print(f"{name:<12}", *kind.numbers, sum(kind.numbers), kind.digest)
+        accepts, *refusals = kind.numbers.values()
+        print(f"{name:<12}", accepts, kind.filled, *refusals, accepts + sum(refusals), kind.digest)
 
 
 main()

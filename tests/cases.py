@@ -4,7 +4,8 @@
 An octagon's set is taken row by row: in row y the cells run from the greatest of three lower limits to the least of three upper
 limits. Both are piecewise linear in y, the width of a row is concave, and so is the greatest value of x, x-y, x+y and their
 opposites in a row. So the rows that have a cell are found from the widest row by bisection, each tight bound by ternary search
-over them, and the cells are counted row by row. None of this uses the library's normal form or its cell count.
+over them, and the cells are counted row by row. None of this uses the library's normal form or its cell count. A spread has the
+cells of the smallest octagon that holds the sums, and is filled where that holds others.
 
 The constants are read off the sentences of documents 01 and 02.
 """
@@ -88,15 +89,20 @@ def show(answer):
     return "%s, cells %d" % (" ".join(map(str, answer[0])), answer[1])
 
 
-def around(cells):
-    """The tight bounds of a few cells and their number, or refusal 2."""
-    if any(max(abs(x), abs(y)) > LIMIT for x, y in cells):
-        return 2
+def greatest(cells):
+    """The greatest values of the eight forms on a few cells."""
     forms = (
         lambda x, y: -y, lambda x, y: x - y, lambda x, y: x, lambda x, y: x + y,
         lambda x, y: y, lambda x, y: y - x, lambda x, y: -x, lambda x, y: -x - y,
     )
-    return tuple(max(f(x, y) for x, y in cells) for f in forms), len(cells)
+    return tuple(max(f(x, y) for x, y in cells) for f in forms)
+
+
+def around(cells):
+    """The tight bounds of a few cells and their number, or refusal 2."""
+    if any(max(abs(x), abs(y)) > LIMIT for x, y in cells):
+        return 2
+    return greatest(cells), len(cells)
 
 
 def sums(a, b):
@@ -108,9 +114,37 @@ def fits(plot, frame):
     return {(x - v, y - w) for x, y in plot for v, w in frame if all((x - v + a, y - w + b) in plot for a, b in frame)}
 
 
-def beside(name, answer):
+def smallest(cells):
+    """The cells of the smallest octagon that holds a few cells: those of the rectangle about them that have no form greater."""
+    xs, ys = zip(*cells)
+    bounds = greatest(cells)
+    about = {(x, y) for x in range(min(xs), max(xs) + 1) for y in range(min(ys), max(ys) + 1)}
+    return {cell for cell in about if all(a <= b for a, b in zip(greatest({cell}), bounds))}
+
+
+def marked(answer, filled):
+    """An answer with its mark; a refusal has none."""
+    return show(answer) if isinstance(answer, int) else show(answer) + (", filled" if filled else ", exact")
+
+
+def agreed(name, shown):
     """A line of which the program works out both parts, and the two have to agree."""
-    print("%s: %s; by cells %s: agree" % (name, show(answer), show(answer)))
+    print("%s: %s; by cells %s: agree" % (name, shown, shown))
+
+
+def beside(name, answer):
+    agreed(name, show(answer))
+
+
+def spread_beside(name, made):
+    """A spread by the set of its sums: the smallest octagon that holds them, filled where that has others."""
+    agreed(name, marked(around(smallest(made)), smallest(made) != made))
+
+
+def closed_beside(name, plot, frame):
+    """A closing: the positions in the sums, and the mark of the spread."""
+    made = sums(plot, frame)
+    agreed(name, marked(around(fits(made, frame)), smallest(made) != made))
 
 
 STEPS = "d0 (1,0), d1 (1,1), d2 (0,1), d3 (-1,1), d4 (-1,0), d5 (-1,-1), d6 (0,-1), d7 (1,-1)"
@@ -132,9 +166,9 @@ def sides(piece):
 
 def constants():
     """The map, the folds, a sheet's length, a record's without and with a fee row, that of one written, a trailer's, and the greatest
-    radius; the refusals; the constants of the octagon; the tables."""
+    radius; the refusals, of which none is 4; the constants of the octagon; the tables."""
     print("limits", *(words.replace(",", "") for words in ("16,000", "65,535", "65,536", "24", "26", "26", "16", "255")))
-    print("refusals", *range(1, 18))
+    print("refusals", *(n for n in range(1, 18) if n != 4))
     print("origin", *[0] * 8)
     print("built", *range(1, 9))
     print("steps", *(n for step in re.findall(r"(-?\d),(-?\d)", STEPS) for n in step))
@@ -143,29 +177,41 @@ def constants():
         print("row %d of the pieces:" % k, *sides(piece), "from 0 0")
 
 
+K2, K4, K13 = {(0, 0), (1, 1)}, {(0, 0), (-1, 1)}, {(0, 0), (1, 1), (-1, 1), (0, 2), (0, 1)}
+
+
+def opposed_rows():
+    """The sums of K2 and K4 leave K13's middle out, so that the smallest octagon that holds them is K13; K2 closed by K4 is K2."""
+    assert smallest(sums(K2, K4)) == K13 == sums(K2, K4) | {(0, 1)}
+    assert fits(K13, K4) == K2 == fits(sums(K2, K4), K4)
+    spread_beside("K2 spread by K4", sums(K2, K4))
+    spread_beside("K13 opened by K4", sums(fits(K13, K4), K4))
+    closed_beside("K2 closed by K4", K2, K4)
+
+
 def main():
     plot = {(x, y) for x in range(-2, 3) for y in range(5) if abs(x) + abs(y - 2) <= 2}
     frame = {(0, 0), (1, 0), (0, 1), (1, 1)}
     beside("plot", around(plot))
     beside("positions of the frame", around(fits(plot, frame)))
-    beside("ground that it opens", around(sums(fits(plot, frame), frame)))
+    spread_beside("ground that it opens", sums(fits(plot, frame), frame))
     print("the price list's figure, cells %d: agree" % len(sums(fits(plot, frame), frame)))
-    beside("cell (16000,0) spread by (0,0)", around(sums({(16000, 0)}, {(0, 0)})))
-    beside("cell (16000,0) spread by (1,0)", around(sums({(16000, 0)}, {(1, 0)})))
+    spread_beside("cell (16000,0) spread by (0,0)", sums({(16000, 0)}, {(0, 0)}))
+    spread_beside("cell (16000,0) spread by (1,0)", sums({(16000, 0)}, {(1, 0)}))
+    opposed_rows()
     cells = {(0, 0)}
     print("origin spread once by itself has the same cells:", "agree" if sums(cells, cells) == cells else "disagree")
     for _ in range(65535):
         cells = sums(cells, {(0, 0)})
-    beside("origin spread 65535 times by itself", around(cells))
+    spread_beside("origin spread 65535 times by itself", cells)
     print("origin spread 65536 times by itself: %s: agree" % show(6))
     # the block's cells and those of K13, summed; corner 2 is where the sides n1 and n2 meet: the lowest of the rightmost cells
     block = {(x, y) for x in range(3) for y in range(2)}
-    star = {(0, 0), (1, 1), (-1, 1), (0, 2), (0, 1)}
-    spread = sums(block, star)
+    spread = sums(block, K13)
     right = max(x for x, _ in spread)
     corner = (right, min(y for x, y in spread if x == right))
     assert (corner[0] / 4, corner[1] / 4) == (0.75, 0.25)
-    beside("the block spread by K13", around(spread))
+    spread_beside("the block spread by K13", spread)
     print("its corner 2, in quarter metres east and north: %d %d: agree" % corner)
     # too large to enumerate, or bounds too far apart
     for c in (

@@ -2,7 +2,7 @@
 
 It shares nothing with the library. A set is a Python set of cells (x, y). Bounds hold the cells that pass the eight inequalities; the
 bounds of an answer are the greatest values of their left sides. Sums, positions that fit, walks, opposed rows and the split are taken
-word for word from document 01. A refusal is raised with its number.
+word for word from document 01; a spread of opposed rows is filled, as document 02 has it. A refusal is raised with its number.
 """
 import sheets
 from sheets import STEPS, Refused, corners
@@ -27,11 +27,21 @@ def tightest(cells):
     return [max(values) for values in zip(*map(forms, cells))]
 
 
+def filled_up(cells):
+    """The cells of the smallest octagon that holds these."""
+    return within(tightest(cells))
+
+
 def on_map(cells):
-    """The same cells, which are those of an octagon."""
+    """The same cells."""
     if any(abs(x) > LIMIT or abs(y) > LIMIT for x, y in cells):
         raise Refused(2)
-    assert within(tightest(cells)) == cells
+    return cells
+
+
+def octagonal(cells):
+    """The same cells, which are on the map and those of an octagon."""
+    assert filled_up(on_map(cells)) == cells
     return cells
 
 
@@ -40,7 +50,7 @@ def some(bounds):
     cells = within(bounds)
     if not cells:
         raise Refused(1)
-    return on_map(cells)
+    return octagonal(cells)
 
 
 def is_row(cells, line):
@@ -67,12 +77,19 @@ def positions(a, b):
     return {(x - u, y - v) for x, y in a if all((x - u + s, y - v + t) in a for s, t in b)}
 
 
-def spread(a, b, n=1):
-    if n > 0 and are_opposed(a, b):
-        raise Refused(4)
+def sums_on_map(a, b, n):
     for _ in range(n):
         a = sums(a, b)
     return on_map(a)
+
+
+def spread(a, b, n=1):
+    """The cells of the smallest octagon that holds the sums, and whether it is filled: no octagon has just the sums."""
+    made = sums_on_map(a, b, n)
+    cells = filled_up(made)
+    filled = n > 0 and are_opposed(a, b)
+    assert filled == (cells != made)
+    return cells, filled
 
 
 def trim(a, b, n=1):
@@ -80,7 +97,19 @@ def trim(a, b, n=1):
         a = positions(a, b)
     if not a:
         raise Refused(5)
-    return on_map(a)
+    return octagonal(a)
+
+
+def close(a, b):
+    """The positions in the sums, filled or not, and the mark of the spread."""
+    cells, filled = spread(a, b)
+    closed = trim(sums_on_map(a, b, 1), b)
+    assert positions(cells, b) == closed
+    return closed, filled
+
+
+def exact(cells):
+    return cells, False
 
 
 def folded(operation):
@@ -92,13 +121,14 @@ def folded(operation):
     return call
 
 
+# each answers the cells, and whether they are filled
 PAIRED = {
     "dilate": lambda p, f, n: spread(some(p), some(f)),
-    "erode": lambda p, f, n: trim(some(p), some(f)),
+    "erode": lambda p, f, n: exact(trim(some(p), some(f))),
     "opening": lambda p, f, n: spread(trim(some(p), some(f)), some(f)),
-    "closing": lambda p, f, n: trim(spread(some(p), some(f)), some(f)),
+    "closing": lambda p, f, n: close(some(p), some(f)),
     "dilate_n": folded(spread),
-    "erode_n": folded(trim),
+    "erode_n": folded(lambda a, b, n: exact(trim(a, b, n))),
 }
 
 # ---- outlines, places and splits
@@ -111,7 +141,7 @@ def inside(start, sides):
         raise Refused(3)
     xs, ys = zip(*places)
     box = [(x, y) for x in range(min(xs), max(xs) + 1) for y in range(min(ys), max(ys) + 1)]
-    return on_map({(x, y) for x, y in box if sheets.inside(places, x, y)})
+    return octagonal({(x, y) for x, y in box if sheets.inside(places, x, y)})
 
 
 def outline(cells):

@@ -35,8 +35,12 @@ def answered(what, work, form):
     return "%s: %s\n" % (what, form(result))
 
 
+def shape(cells):
+    return "start %s sides %s cells %d" % (*map(words, outline(cells)), len(cells))
+
+
 def drawn(what, work):
-    return answered(what, work, lambda cells: "start %s sides %s cells %d" % (*map(words, outline(cells)), len(cells)))
+    return answered(what, work, shape)
 
 
 def bounded(what, bounds):
@@ -47,8 +51,17 @@ def parted(what, bounds):
     return answered(what, lambda: split(bounds), lambda parts: "start %s counts %s" % tuple(map(words, parts)))
 
 
-def paired(what, name, p, f, n=1):
-    return drawn(what, lambda: PAIRED[name](p, f, n))
+def marked(result):
+    cells, filled = result
+    return "%s, %s" % (shape(cells), "filled" if filled else "exact")
+
+
+def spread(what, name, p, f, n=1):
+    return answered(what, lambda: PAIRED[name](p, f, n), marked)
+
+
+def trimmed(what, name, p, f, n=1):
+    return drawn(what, lambda: PAIRED[name](p, f, n)[0])
 
 
 def located(what, bounds, k):
@@ -69,18 +82,19 @@ def octagons():
     block, square, row = octagon(0, 0, [2, 0, 1, 0] * 2), octagon(0, 0, [2, 0] * 4), octagon(0, 0, [2, 0, 0, 0] * 2)
     yield bounded("all bounds 0", ORIGIN) + bounded("slack bounds", [0, 0, 9, 1, 2, 9, 0, 0]) + bounded("crossed bounds", CROSSED)
     yield drawn("n0=1 alone", lambda: inside((0, 0), [1, 0, 0, 0, 0, 0, 0, 0]))
-    yield paired("block spread by K13", "dilate", block, k13)
-    spread = tightest(PAIRED["dilate"](block, k13, 1))
-    yield paired("that trimmed by K13", "erode", spread, k13) + paired("block closed by K13", "closing", block, k13)
-    yield located("corner 2 of the spread", spread, 2) + located("corner 8", spread, 8)
-    yield paired("block trimmed by 3 by 3", "erode", block, square)
-    yield paired("K2 spread by K4", "dilate", k2, k4) + paired("K13 opened by K4", "opening", k13, k4)
+    yield spread("block spread by K13", "dilate", block, k13)
+    sums = tightest(PAIRED["dilate"](block, k13, 1)[0])
+    yield trimmed("that trimmed by K13", "erode", sums, k13) + spread("block closed by K13", "closing", block, k13)
+    yield located("corner 2 of the spread", sums, 2) + located("corner 8", sums, 8)
+    yield trimmed("block trimmed by 3 by 3", "erode", block, square)
+    yield spread("K2 spread by K4", "dilate", k2, k4) + spread("K13 opened by K4", "opening", k13, k4)
+    yield spread("K2 closed by K4", "closing", k2, k4)
     west, east, one = (tightest({cell}) for cell in ((-16000, 0), (16000, 0), (1, 0)))
-    yield paired("(-16000,0) trimmed by (1,0)", "erode", west, one)
-    yield paired("(16000,0) spread by (0,0)", "dilate", east, ORIGIN) + paired("(16000,0) spread by (1,0)", "dilate", east, one)
+    yield trimmed("(-16000,0) trimmed by (1,0)", "erode", west, one)
+    yield spread("(16000,0) spread by (0,0)", "dilate", east, ORIGIN) + spread("(16000,0) spread by (1,0)", "dilate", east, one)
     for n in 65535, 65536:
-        yield paired("origin spread %d times" % n, "dilate_n", ORIGIN, ORIGIN, n)
-    yield paired("block trimmed twice by 3 by 1", "erode_n", block, row, 2)
+        yield spread("origin spread %d times" % n, "dilate_n", ORIGIN, ORIGIN, n)
+    yield trimmed("block trimmed twice by 3 by 1", "erode_n", block, row, 2)
     yield "seven bounds: %d\n" % WRONG_LENGTH
 
 
@@ -88,13 +102,32 @@ def uneven():
     """A plot and a frame whose numbers all differ."""
     yield bounded("uneven plot", UNEVEN) + bounded("slack bounds that differ", [5, 4, 0, 10, 40, 27, 11, 20])
     yield drawn("its outline", lambda: inside(START, SIDES))
-    for what, name in ("spread", "dilate"), ("trimmed", "erode"), ("opened", "opening"), ("closed", "closing"):
-        yield paired("%s by the frame" % what, name, UNEVEN, FRAME)
-    yield paired("spread twice by the frame", "dilate_n", UNEVEN, FRAME, 2)
-    yield paired("trimmed twice by the frame", "erode_n", UNEVEN, FRAME, 2)
-    yield paired("the frame trimmed by the plot", "erode", FRAME, UNEVEN)
+    yield spread("spread by the frame", "dilate", UNEVEN, FRAME) + trimmed("trimmed by the frame", "erode", UNEVEN, FRAME)
+    yield spread("opened by the frame", "opening", UNEVEN, FRAME) + spread("closed by the frame", "closing", UNEVEN, FRAME)
+    yield spread("spread twice by the frame", "dilate_n", UNEVEN, FRAME, 2)
+    yield trimmed("trimmed twice by the frame", "erode_n", UNEVEN, FRAME, 2)
+    yield trimmed("the frame trimmed by the plot", "erode", FRAME, UNEVEN)
     for k in range(8):
         yield located("corner %d" % k, UNEVEN, k)
+
+
+def opposed_rows():
+    """Rows whose numbers all differ, one of each kind, and rows that reach the edge of the map."""
+    rising, edge, past = (octagon(*start, [0, 4, 0, 0] * 2) for start in ((4, -11), (15987, 5), (15988, 5)))
+    falling = octagon(9, 2, [0, 0, 0, 2] * 2)
+    yield bounded("rising row", rising) + bounded("falling row", falling)
+    yield spread("rising spread by falling", "dilate", rising, falling)
+    yield spread("falling spread by rising", "dilate", falling, rising)
+    sums = tightest(PAIRED["dilate"](rising, falling, 1)[0])
+    yield trimmed("the spread trimmed by rising", "erode", sums, rising)
+    yield spread("the spread opened by falling", "opening", sums, falling)
+    yield spread("falling closed by rising", "closing", falling, rising)
+    yield spread("rising opened by falling", "opening", rising, falling)
+    yield spread("rising spread by itself", "dilate", rising, rising) + spread("rising spread by (0,0)", "dilate", rising, ORIGIN)
+    for n in 3, 0:
+        yield spread("rising spread %d times by falling" % n, "dilate_n", rising, falling, n)
+    yield spread("to the edge of the map", "dilate", edge, falling) + spread("past it", "dilate", past, falling)
+    yield spread("closed past it", "closing", past, falling)
 
 
 def splits():
@@ -229,5 +262,5 @@ def limits():
 
 
 if __name__ == "__main__":
-    for part in octagons, uneven, splits, tapes, trees, on_sheets, on_base_sheets, limits:
+    for part in octagons, uneven, opposed_rows, splits, tapes, trees, on_sheets, on_base_sheets, limits:
         print("".join(part()), end="")

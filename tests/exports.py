@@ -18,9 +18,11 @@ OCTAGONS = [PLOT, [-4, -1, 5, 11, 7, 4, -2, -7], [5, 4, 0, 10, 40, 27, 11, 20], 
 OCTAGONS += [tightest({cell}) for cell in ((16001, -3), (15999, -7), (-2, 5))]
 OCTAGONS += [tightest({(2, 3), (3, 4), (4, 5)}), tightest({(1, 7), (2, 6)})]
 OCTAGONS += [PLOT[-k:] + PLOT[:-k] for k in (2, 4, 6)] + [tightest(inside((-6, 1), [0, 3, 0, 2, 0, 3, 0, 2]))]
-FRAMES = [1, 0, 1, 4, 3, 6, 5, 8, 7, 1, 1, 1, 8]
-FOLDS = [2, 0, 65536, 1, 1, 3, 1, 1, 1, 1, 1, 1, 1]
-CALLS = {**PAIRED, "normalise": lambda plot, frame, n: some(plot)}
+OCTAGONS += [tightest(inside((-9, 14), [1, 2, 2, 0, 0, 3, 1, 0])), tightest({(15997, -4), (15998, -3)})]
+FRAMES = [1, 0, 1, 4, 3, 6, 5, 8, 7, 1, 1, 1, 8, 8, 8]
+FOLDS = [2, 0, 65536, 1, 1, 3, 1, 2, 0, 1, 1, 1, 1, 3, 2]
+CALLS = {**PAIRED, "normalise": lambda plot, frame, n: (some(plot), False)}
+MARKED = "dilate", "opening", "closing", "dilate_n"
 TEXT = 273 * ((65536 - 16) // 24 + 2)
 
 
@@ -53,10 +55,22 @@ def bits(places):
 # ---- octagons
 
 
+def operation(name, plot, frame, n, places=8):
+    """One call, with memory for a mark where it has one."""
+
+    def work():
+        cells, filled = CALLS[name](plot, frame, n)
+        return tightest(cells), [int(filled)]
+
+    out, mark = from_number(101, places), [201]
+    fits = len(plot) == 8 and places == 8 and (len(frame) == 8 or name == "normalise")
+    number = called(fits, work, out, mark)
+    return line(name, number, out, mark) if name in MARKED else line(name, number, out)
+
+
 def operate(plot, frame, n):
-    for name, operation in CALLS.items():
-        out = from_number(101, 8)
-        yield line(name, called(len(plot) == 8, lambda: [tightest(operation(plot, frame, n))], out), out)
+    for name in CALLS:
+        yield operation(name, plot, frame, n)
 
 
 def count(plot):
@@ -93,6 +107,9 @@ def octagons():
         yield decompose(plot, start, counts) + to_outline(plot, start, counts)
         yield vertex_place(plot, k % 9, [0.5, -0.75]) + vertex_place(plot, k % 9, [0.5, -0.75, 1.25])
     yield from operate(PLOT[:7], OCTAGONS[1], 1)
+    yield from operate(PLOT, OCTAGONS[1][:7], 1)
+    for name in MARKED:
+        yield operation(name, PLOT, OCTAGONS[1], 1, places=7)
     yield count(PLOT[:7])
 
 

@@ -9,10 +9,13 @@ pub type Bench = [usize; 9960];
 // The operands, eight bounds each, the plot's and then the element's.
 pub const OPERANDS: usize = 192;
 
-// What is expected: up to ten numbers, and then the refusal number, or 0 where the call is accepted.
+// What is expected: up to ten numbers, then the refusal number, or 0 where the call is accepted, and last the mark: 1 where an octagon is
+// filled, or 0.
 pub const EXPECTED: usize = 224;
 
 pub const NUMBER: usize = 234;
+
+pub const MARK: usize = 235;
 
 // An outline: eight sides and the start.
 pub const OUTLINE: usize = 240;

@@ -1,7 +1,8 @@
 // Compares the library with sets of cells that are enumerated one by one, on small octagons anywhere on the map and past its edge.
 //
 // What is expected comes from document 01's eight inequalities and steps, its rule for the counts of a split, and the set definitions 2.12
-// to 2.17 of source document 002 alone; no call of the library is made for it. tests/brute_force.py works the output out by itself.
+// to 2.17 of source document 002 alone; no call of the library is made for it. A spread is expected to be filled where no octagon has just
+// the cells of its set. tests/brute_force.py works the output out by itself.
 mod answers;
 mod bench;
 mod corners;

@@ -2,6 +2,7 @@
 ghost use Prim.Native.Nat.{_<_};
 use crate::bench::Bench;
 use crate::bench::EXPECTED;
+use crate::bench::MARK;
 use crate::bench::NUMBER;
 use crate::bench::PAIR;
 use crate::bench::get;
@@ -32,8 +33,10 @@ pub const DILATE_N: usize = 10;
 
 pub const CALLS: usize = 12;
 
-// A call's numbers: how often each answer was expected, accepted ones as 0 and others by their refusal; how many answers agreed; a
-// digest of what was expected.
+// A call's numbers: how often it was expected to be accepted, how many of these were filled, and how often it was to be refused with each
+// number; how many answers agreed; a digest of what was expected.
+const FILLED: usize = 1;
+
 const AGREED: usize = 8;
 
 const DIGEST: usize = 9;
@@ -84,16 +87,36 @@ fn write_disagreement(call: usize, pair: usize) {
     io::write_all(STDOUT_FILENO, b"\n");
 }
 
+// The column of a refusal number, or of 0 for an accepted call. No call is refused with 4.
+fn column(number: usize) -> usize
+    ensures { λ r. ⌜ r < 8 ⌝ }
+{
+    match number {
+        1 => 2,
+        2 => 3,
+        3 => 4,
+        _ => number % 8,
+    }
+}
+
+// Adds to one of the numbers of a call.
+fn add(bench: &mut Bench, call: usize, k: usize, n: usize)
+    requires { ⌜ call < 12 ⌝ }
+    requires { ⌜ k < 16 ⌝ }
+{
+    bench[call * 16 + k] = std::num::wrapping_add_usize(get(bench, call * 16, k), n);
+}
+
 // Notes whether the answer to a call agrees with what is expected.
 pub fn note(bench: &mut Bench, call: usize, agrees: bool)
     requires { ⌜ call < 12 ⌝ }
 {
-    let row = call * 16;
-    let answer = row + bench[NUMBER] % 8;
-    let agreed = row + AGREED;
-    mix(bench, call, EXPECTED, 11);
-    bench[answer] = std::num::wrapping_add_usize(get(bench, answer, 0), 1);
-    bench[agreed] = std::num::wrapping_add_usize(get(bench, agreed, 0), agrees as usize);
+    let mark = bench[MARK];
+    let answer = column(bench[NUMBER]);
+    mix(bench, call, EXPECTED, 12);
+    add(bench, call, answer, 1);
+    add(bench, call, FILLED, mark);
+    add(bench, call, AGREED, agrees as usize);
     if !agrees {
         write_disagreement(call, get(bench, PAIR, 0));
     }
@@ -116,7 +139,7 @@ fn write_call(bench: &Bench, call: usize)
 pub fn write_calls(bench: &Bench) {
     io::write_all(
         STDOUT_FILENO,
-        b"call         accepted, refused with 1 to 7, agreed, digest\n",
+        b"call         accepted, of these filled, refused with 1, 2, 3, 5, 6, 7, agreed, digest\n",
     );
     let mut call = 0;
     while call < CALLS {

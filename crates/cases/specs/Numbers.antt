@@ -12,7 +12,7 @@ use Rattle.outline.specs.Tables.{steps, pieces, piece-sides}
 use Rattle.outline.specs.Walk.{with-sides}
 use Rattle.outline.specs.Tracing.{not-closed}
 use Rattle.outline.specs.Places.{no-vertex}
-use Rattle.morphology.specs.Operations.{opposed-rows, nothing-left}
+use Rattle.morphology.specs.Operations.{nothing-left}
 use Rattle.morphology.specs.Folds.{fold-limit, too-many-folds}
 use Rattle.decomposition.specs.Pieces.{outlines, piece-of}
 use Rattle.records.specs.Numbers.{bytes}
@@ -33,10 +33,11 @@ use Rattle.cases.specs.Shorthand.{Case, is}
 abbrev pub printed-limits : List ℕ
 printed-limits = 16000 ∷ 65535 ∷ 65536 ∷ 24 ∷ 26 ∷ 26 ∷ 16 ∷ 255 ∷ []
 
--- the refusals: no cell, off the map, not closed, opposed rows, nothing left, too many folds, corner above 7, length, trailer, distance,
--- plot number, no room, no record; and those of document 02: not finite, no point, half a point, radius above 255
+-- the refusals: no cell, off the map, not closed, nothing left, too many folds, corner above 7, length, trailer, distance,
+-- plot number, no room, no record; and those of document 02: not finite, no point, half a point, radius above 255. Document 02's U4 takes
+-- document 01's 4 away
 abbrev pub printed-refusals : List ℕ
-printed-refusals = 1 ∷ 2 ∷ 3 ∷ 4 ∷ 5 ∷ 6 ∷ 7 ∷ 8 ∷ 9 ∷ 10 ∷ 11 ∷ 12 ∷ 13 ∷ 14 ∷ 15 ∷ 16 ∷ 17 ∷ []
+printed-refusals = 1 ∷ 2 ∷ 3 ∷ 5 ∷ 6 ∷ 7 ∷ 8 ∷ 9 ∷ 10 ∷ 11 ∷ 12 ∷ 13 ∷ 14 ∷ 15 ∷ 16 ∷ 17 ∷ []
 
 -- "the letters GRND"
 abbrev pub printed-letters : List ℕ
@@ -102,7 +103,7 @@ thirteen = 0 ∷ 1 ∷ 2 ∷ 3 ∷ 4 ∷ 5 ∷ 6 ∷ 7 ∷ 8 ∷ 9 ∷ 10 ∷ 11
 pub fixed-numbers : List (Case Fixed)
 fixed-numbers =
     is (numbers (limit ∷ fold-limit ∷ sheet-limit ∷ base-length ∷ fee-length ∷ record-length ∷ trailer-length ∷ radius-limit ∷ [])) (numbers printed-limits) ∷
-    is (numbers (no-cell ∷ off-map ∷ not-closed ∷ opposed-rows ∷ nothing-left ∷ too-many-folds ∷ no-vertex ∷ bad-length ∷ bad-trailer ∷ bad-distance ∷ bad-number ∷ no-room ∷ no-record ∷ not-finite ∷ no-point ∷ half-point ∷ too-wide ∷ []))
+    is (numbers (no-cell ∷ off-map ∷ not-closed ∷ nothing-left ∷ too-many-folds ∷ no-vertex ∷ bad-length ∷ bad-trailer ∷ bad-distance ∷ bad-number ∷ no-room ∷ no-record ∷ not-finite ∷ no-point ∷ half-point ∷ too-wide ∷ []))
     (numbers printed-refusals) ∷
     is (numbers (bytes 4 letters)) (numbers printed-letters) ∷
     is (numbers (map (λ w. 8 * w) base-layout)) (numbers (printed-record-fields 0)) ∷

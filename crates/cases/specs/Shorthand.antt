@@ -6,6 +6,7 @@ use Rattle.octagon.specs.Outcome.{Outcome, then}
 use Rattle.outline.specs.declared.Outline.{Outline}
 use Rattle.outline.specs.Tracing.{traced}
 use Rattle.decomposition.specs.declared.Split.{Split}
+use Rattle.morphology.specs.Marks.{Marked}
 use Rattle.morphology.specs.Operations.{dilation, erosion, opened}
 
 -- what a definition gives, and what document 01 says that it gives
@@ -57,15 +58,15 @@ split-by k1 k2 k3 k4 k5 k6 k7 k8 k9 k10 k11 k12 k13 = record {
 }
 
 -- an operation on the octagons of two outlines
-abbrev pub by : (Octagon → Octagon → Outcome Octagon) → Outcome Octagon → Outline → Outcome Octagon
+abbrev pub by : {R : Type 0} → (Octagon → Octagon → Outcome R) → Outcome Octagon → Outline → Outcome R
 by f p e = then p (λ a. then (traced e) (f a))
 
 -- spread, trim and opening, of a plot by a frame
-abbrev pub spread : Outcome Octagon → Outline → Outcome Octagon
+abbrev pub spread : Outcome Octagon → Outline → Outcome Marked
 spread = by dilation
 
 abbrev pub trim : Outcome Octagon → Outline → Outcome Octagon
 trim = by erosion
 
-abbrev pub open-by : Outcome Octagon → Outline → Outcome Octagon
+abbrev pub open-by : Outcome Octagon → Outline → Outcome Marked
 open-by = by opened

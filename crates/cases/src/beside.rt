@@ -6,11 +6,15 @@ use crate::sets::Set;
 use crate::signed::LIFT;
 use crate::signed::lifted;
 use cell_count::Count;
+use morphology::Spread;
 use octagon::Answer;
 use octagon::Octagon;
 
 // The map's limit.
 const LIMIT: u64 = LIFT + 16000;
+
+// The refusal number of an erosion or an opening that has no cell.
+pub const NOTHING_LEFT: u32 = 5;
 
 // The refusal number of a set, or 0: as `empty` says where it has no cell, 1 or 5, and 2 where the greatest -y, x, y or -x of its cells is
 // past the map's limit.
@@ -88,4 +92,24 @@ pub fn tell(a: Answer, s: Set, empty: u32) {
         print::refused(number);
         verdict(is_refused(a, number));
     }
+}
+
+// An answer with its mark, and what the set and a mark say. A refusal has no mark.
+pub fn tell_marked(given: Spread, s: Set, filled: bool) {
+    let number = number_of(s, NOTHING_LEFT);
+    print::spread(given);
+    text(b"; by cells");
+    if number == 0 {
+        print::reached(s);
+        print::mark(filled);
+        verdict(is_octagon(given.answer(), s) & (given.is_filled() == filled));
+    } else {
+        print::refused(number);
+        verdict(is_refused(given.answer(), number));
+    }
+}
+
+// A spread, and what the set of its sums says: the cells of the smallest octagon that holds them, filled where no octagon has just them.
+pub fn tell_spread(given: Spread, sums: Set) {
+    tell_marked(given, sets::within_reach(sums), sets::has_holes(sums));
 }

@@ -28,14 +28,13 @@ fn limits() -> [u32; 8]
     ]
 }
 
-fn refusals() -> [u32; 17]
+fn refusals() -> [u32; 16]
     ensures { λ r. ⌜ r ≡ numbers.printed-refusals ⌝ }
 {
     [
         octagon::NO_CELL,
         octagon::OFF_MAP,
         outline::NOT_CLOSED,
-        morphology::OPPOSED_ROWS,
         morphology::NOTHING_LEFT,
         morphology::folds::TOO_MANY_FOLDS,
         outline::NO_VERTEX,

@@ -13,25 +13,31 @@ pub const BESIDE: usize = 2;
 
 pub const BLOCK: usize = 3;
 
-pub const K13: usize = 4;
+pub const K2: usize = 4;
 
-pub const PLOT: usize = 5;
+pub const K4: usize = 5;
 
-pub const FRAME: usize = 6;
+pub const K13: usize = 6;
 
-pub const EXTREMES: usize = 7;
+pub const PLOT: usize = 7;
+
+pub const FRAME: usize = 8;
+
+pub const EXTREMES: usize = 9;
 
 const MIN: i32 = -2147483648;
 
 const MAX: i32 = 2147483647;
 
-const BOUNDS: [[i32; 8]; 21] = [
+const BOUNDS: [[i32; 8]; 23] = [
     // the cells (16000,0), (0,0) and (1,0)
     [0, 16000, 16000, 16000, 0, -16000, -16000, -16000],
     [0, 0, 0, 0, 0, 0, 0, 0],
     [0, 1, 1, 1, 0, -1, -1, -1],
-    // the block of 3 by 2 cells, K13, the plot and the frame of the README
+    // the block of 3 by 2 cells, K2, K4 and K13, the plot and the frame of the README
     [0, 2, 2, 3, 1, 1, 0, 0],
+    [0, 0, 1, 2, 1, 0, 0, 0],
+    [0, 0, 0, 0, 1, 2, 1, 0],
     [0, 0, 1, 2, 2, 2, 1, 0],
     [0, 0, 2, 4, 4, 4, 2, 0],
     [0, 1, 1, 2, 1, 1, 0, 0],
@@ -54,7 +60,7 @@ const BOUNDS: [[i32; 8]; 21] = [
 ];
 
 fn bound(operand: usize, k: usize) -> i32 {
-    BOUNDS[operand % 21][k % 8]
+    BOUNDS[operand % 23][k % 8]
 }
 
 // The left side of inequality k at the cell (x, y).

@@ -5,6 +5,7 @@ use crate::signed::LIFT;
 use crate::signed::lifted;
 use cell_count::Count;
 use libc::STDOUT_FILENO;
+use morphology::Spread;
 use octagon::Answer;
 use octagon::Octagon;
 
@@ -80,12 +81,35 @@ pub fn refused(number: u32) {
     spaced(number);
 }
 
+// An octagon and the number of its cells.
+fn octagon(o: Octagon) {
+    bounds(o);
+    count(cell_count::count_cells(o));
+}
+
 // An answer of the library.
 pub fn answer(a: Answer) {
     match a {
+        Answer::Octagon(o) => octagon(o),
+        Answer::Refused(n) => refused(n),
+    }
+}
+
+// A mark.
+pub fn mark(filled: bool) {
+    if filled {
+        text(b", filled");
+    } else {
+        text(b", exact");
+    }
+}
+
+// An answer of the library and its mark. A refusal has none.
+pub fn spread(given: Spread) {
+    match given.answer() {
         Answer::Octagon(o) => {
-            bounds(o);
-            count(cell_count::count_cells(o));
+            octagon(o);
+            mark(given.is_filled());
         }
         Answer::Refused(n) => refused(n),
     }

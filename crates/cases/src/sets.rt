@@ -100,6 +100,40 @@ pub fn reach(s: Set, k: usize) -> u64 {
     most
 }
 
+// Whether cell i of a set's window is within the bounds that the set reaches.
+fn is_within(s: Set, i: u64) -> bool {
+    let mut k = 0;
+    while k < 8 {
+        if reach(s, k) < form(k, column(s, i), row(s, i)) {
+            return false;
+        }
+        k += 1;
+    }
+    true
+}
+
+// The cells within the bounds that a set reaches: those of the smallest octagon that holds it.
+pub fn within_reach(s: Set) -> Set {
+    let mut bits = 0;
+    let mut i: u64 = 0;
+    while i < 64 {
+        if is_within(s, i) {
+            bits = bits | 1 << i;
+        }
+        i += 1;
+    }
+    Set {
+        bits,
+        x: s.x,
+        y: s.y,
+    }
+}
+
+// Whether no octagon has just the cells of a set.
+pub fn has_holes(s: Set) -> bool {
+    within_reach(s).bits != s.bits
+}
+
 // The last cell of a set from a cell on, each `step` after the one before.
 fn last(s: Set, from: u64, step: u64) -> u64 {
     let mut here = from;

@@ -12,7 +12,7 @@ mod tapes;
 // Each octagon, in each call that takes one.
 fn each_octagon() {
     let mut k = 0;
-    while k < 13 {
+    while k < 15 {
         octagons::pairs(k);
         outlines::outline(k);
         outlines::split(k);

@@ -1,5 +1,5 @@
 // Operands and memory whose numbers differ, so that none can stand in another's place unseen.
-const OCTAGONS: [[i32; 8]; 13] = [
+const OCTAGONS: [[i32; 8]; 15] = [
     // the plot from (-4, -5) with the sides 3 1 14 2 5 4 6 7, and a frame of 10 cells
     [5, 4, 0, 10, 12, 19, 11, 9],
     [-4, -1, 5, 11, 7, 4, -2, -7],
@@ -18,10 +18,14 @@ const OCTAGONS: [[i32; 8]; 13] = [
     [12, 19, 11, 9, 5, 4, 0, 10],
     [0, 10, 12, 19, 11, 9, 5, 4],
     [-1, -7, -3, 1, 6, 11, 8, 5],
+    // the strip from (-9, 14) with the sides 1 2 2 0 0 3 1 0, in which the row of two cells has positions on one rising row
+    [-14, -22, -6, 12, 18, 24, 9, -5],
+    // the cells (15997, -4) and (15998, -3): spread by that row they reach the map's edge
+    [4, 16001, 15998, 15995, -3, -16001, -15997, -15993],
 ];
 
 pub fn octagon(k: usize) -> [i32; 8] {
-    OCTAGONS[k % 13]
+    OCTAGONS[k % 15]
 }
 
 // How many bytes the buffers of sheets have.

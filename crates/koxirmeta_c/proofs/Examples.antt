@@ -1,7 +1,7 @@
 -- Small values of the definitions of specs/Calls.antt and specs/Outlines.antt, computed: bounds, sides, a start and a place in which no two
 -- numbers are the same, so that none can stand in another's place; and slices of wrong lengths. Assumes nothing.
 use mathlib.Core.Path.{_≡_, refl}
-use mathlib.Core.Bool.{Bool, true, false}
+use mathlib.Core.Bool.{true, false}
 use mathlib.Core.List.{List, [], _∷_}
 use Prim.Native.Nat.{ℕ}
 use native.Mathlib.Omega.{arith}
@@ -12,7 +12,8 @@ use Rattle.octagon.specs.declared.Octagon.{Octagon}
 use Rattle.octagon.specs.Outcome.{Outcome, accepted, refused}
 use Rattle.octagon.specs.NormalForm.{even-bound, odd-bound, tight-even, tight-odd, normal-form, sides, has-cell, is-on-map, placed, normalised}
 use Rattle.cell_count.specs.Area.{triangle, rectangle, cuts, area, cell-count}
-use Rattle.morphology.specs.Operations.{differences, erosion}
+use Rattle.morphology.specs.Marks.{exact, filled}
+use Rattle.morphology.specs.Operations.{sums, differences, is-rising, is-falling, are-opposed, dilation, erosion}
 use Rattle.outline.specs.declared.Outline.{Outline}
 use Rattle.outline.specs.declared.place.Place.{Place}
 use Rattle.outline.specs.Closing.{closes}
@@ -20,7 +21,7 @@ use Rattle.outline.specs.Walk.{vertex}
 use Rattle.outline.specs.Tracing.{bounds-at, drawn, traced}
 use Rattle.outline.specs.Outlining.{outline-of, outlined}
 use Rattle.outline.specs.Places.{over, place-of-vertex, located}
-use Rattle.koxirmeta_c.specs.Calls.{wrong-length, fitted, status, Hands, is-eight, bounded, octagon-in, bounds-of, on-one, on-two, counted}
+use Rattle.koxirmeta_c.specs.Calls.{wrong-length, fitted, status, Hands, is-eight, bounded, octagon-in, bounds-of, marked-parts, on-one, on-two, counted}
 use Rattle.koxirmeta_c.specs.Outlines.{is-pair, outline-in, holds-outline, start, sides-of, outline-parts, metres-of, tracing, outlining, locating}
 
 -- ---- slices, and what is in them
@@ -43,6 +44,13 @@ seven-bounds = pos 5 ∷ pos 4 ∷ pos 0 ∷ pos 10 ∷ pos 12 ∷ pos 19 ∷ po
 
 abbrev nine-bounds : List ℤ
 nine-bounds = pos 5 ∷ pos 4 ∷ pos 0 ∷ pos 10 ∷ pos 12 ∷ pos 19 ∷ pos 11 ∷ pos 9 ∷ pos 8 ∷ []
+
+-- the cells (2, 3), (3, 4) and (4, 5), and the cells (1, 7) and (2, 6): opposed rows
+abbrev rising-bounds : List ℤ
+rising-bounds = negsuc 2 ∷ negsuc 0 ∷ pos 4 ∷ pos 9 ∷ pos 5 ∷ pos 1 ∷ negsuc 1 ∷ negsuc 4 ∷ []
+
+abbrev falling-bounds : List ℤ
+falling-bounds = negsuc 5 ∷ negsuc 3 ∷ pos 2 ∷ pos 8 ∷ pos 7 ∷ pos 6 ∷ negsuc 0 ∷ negsuc 7 ∷ []
 
 -- the plot, and the one cell at the origin
 abbrev plot-octagon : Octagon
@@ -77,24 +85,24 @@ vertex-6 = record { east = fin true 11 (negsuc 1); north = fin false 1 (pos 1) }
 abbrev gives-7 : Outcome ℕ
 gives-7 = accepted 7
 
-abbrev refuses-4 : Outcome ℕ
-refuses-4 = refused 4
+abbrev refuses-5 : Outcome ℕ
+refuses-5 = refused 5
 
-pub numbers : (wrong-length ∷ status gives-7 ∷ status refuses-4 ∷ []) ≡ (255 ∷ 0 ∷ 4 ∷ [])
+pub numbers : (wrong-length ∷ status gives-7 ∷ status refuses-5 ∷ []) ≡ (255 ∷ 0 ∷ 5 ∷ [])
 unfolding status
 numbers = refl
 
-pub fittings : (fitted true gives-7 ∷ fitted true refuses-4 ∷ fitted false gives-7 ∷ fitted false refuses-4 ∷ [])
-    ≡ (gives-7 ∷ refuses-4 ∷ refused 255 ∷ refused 255 ∷ [])
+pub fittings : (fitted true gives-7 ∷ fitted true refuses-5 ∷ fitted false gives-7 ∷ fitted false refuses-5 ∷ [])
+    ≡ (gives-7 ∷ refuses-5 ∷ refused 255 ∷ refused 255 ∷ [])
 unfolding fitted
 fittings = refl
 
 -- lent the number 3, an accepted call makes it 7, and a refused one leaves it
-pub hands : Hands gives-7 (λ n. n) 3 7 0 × Hands refuses-4 (λ n. n) 3 3 4
+pub hands : Hands gives-7 (λ n. n) 3 7 0 × Hands refuses-5 (λ n. n) 3 3 5
 unfolding status
 hands = (record { answers = refl; leaves = refl }, record { answers = refl; leaves = refl })
 
-pub hands-nothing-else : ¬ (Hands gives-7 (λ n. n) 3 3 0) × ¬ (Hands refuses-4 (λ n. n) 3 7 4)
+pub hands-nothing-else : ¬ (Hands gives-7 (λ n. n) 3 3 0) × ¬ (Hands refuses-5 (λ n. n) 3 7 5)
 hands-nothing-else = ((λ h. omega (arith, h .leaves)), (λ h. omega (arith, h .leaves)))
 
 -- ---- octagons in slices
@@ -123,6 +131,18 @@ pub operations : (on-one normalised slack-bounds plot-bounds ∷ on-one normalis
     ∷ refused 255 ∷ refused 255 ∷ refused 255 ∷ [])
 unfolding fitted octagon-in normalised normal-form tight-odd tight-even even-bound odd-bound minℤ halfℤ has-cell placed is-on-map erosion differences
 operations = refl
+
+-- an octagon with its mark, and the dilation: filled for opposed rows, exact for others
+pub marks : (marked-parts (exact plot-octagon) ∷ marked-parts (filled plot-octagon) ∷ []) ≡ ((plot-bounds, 0) ∷ (plot-bounds, 1) ∷ [])
+unfolding bounds-of
+marks = refl
+
+pub spreads : (on-two dilation rising-bounds falling-bounds plot-bounds ∷ on-two dilation rising-bounds frame-bounds plot-bounds
+    ∷ on-two dilation rising-bounds falling-bounds seven-bounds ∷ [])
+    ≡ (accepted (filled (record { c0 = negsuc 8; c1 = negsuc 4; c2 = pos 6; c3 = pos 17; c4 = pos 12; c5 = pos 7; c6 = negsuc 2; c7 = negsuc 12 }))
+    ∷ accepted (exact (record { c0 = negsuc 6; c1 = negsuc 1; c2 = pos 9; c3 = pos 20; c4 = pos 12; c5 = pos 5; c6 = negsuc 3; c7 = negsuc 11 })) ∷ refused 255 ∷ [])
+unfolding fitted octagon-in normalised normal-form tight-odd tight-even even-bound odd-bound minℤ halfℤ has-cell placed is-on-map dilation sums are-opposed is-rising is-falling
+spreads = refl
 
 pub counts : (counted plot-bounds ∷ counted crossing-bounds ∷ counted seven-bounds ∷ []) ≡ (accepted 174 ∷ refused 1 ∷ refused 255 ∷ [])
 unfolding fitted octagon-in normalised normal-form tight-odd tight-even even-bound odd-bound minℤ halfℤ has-cell placed is-on-map cell-count area rectangle cuts triangle

@@ -9,6 +9,7 @@ use lib.ListN.{length, getD}
 use Rattle.octagon.specs.declared.Octagon.{Octagon}
 use Rattle.octagon.specs.Outcome.{Outcome, accepted, refused, left}
 use Rattle.cell_count.specs.Area.{cell-count}
+use Rattle.morphology.specs.Marks.{Marked}
 
 -- the number of a call whose slices have the wrong lengths: none of the documents'
 abbrev pub wrong-length : ℕ
@@ -56,11 +57,19 @@ octagon-in s = bounded (cond (is-eight s) s [])
 unfoldable pub bounds-of : Octagon → List ℤ
 bounds-of o = o .c0 ∷ o .c1 ∷ o .c2 ∷ o .c3 ∷ o .c4 ∷ o .c5 ∷ o .c6 ∷ o .c7 ∷ []
 
+-- the mark of an octagon that is handed over, as a number: 0 for exact, 1 for filled
+abbrev pub mark-number : Bool → ℕ
+mark-number t = cond t 1 0
+
+-- the bounds of a marked octagon, and its mark
+abbrev pub marked-parts : Marked → List ℤ × ℕ
+marked-parts m = (bounds-of (m .octagon), mark-number (m .is-filled))
+
 -- a call of one operand, and of two
 abbrev pub on-one : (Octagon → Outcome Octagon) → List ℤ → List ℤ → Outcome Octagon
 on-one f s out = fitted (is-eight s && is-eight out) (f (octagon-in s))
 
-abbrev pub on-two : (Octagon → Octagon → Outcome Octagon) → List ℤ → List ℤ → List ℤ → Outcome Octagon
+abbrev pub on-two : {R : Type 0} → (Octagon → Octagon → Outcome R) → List ℤ → List ℤ → List ℤ → Outcome R
 on-two f p q out = fitted (is-eight p && is-eight q && is-eight out) (f (octagon-in p) (octagon-in q))
 
 abbrev pub counted : List ℤ → Outcome ℕ

@@ -3,9 +3,11 @@ ghost use mathlib.Core.Path.{_≡_};
 ghost use mathlib.Core.Bool.{_&&_};
 ghost use lib.ListN.{length};
 ghost use Rattle.octagon.specs.Answers.{outcome};
+ghost use Rattle.morphology.specs.Marks.{«spread-outcome»};
 ghost use Rattle.koxirmeta_c.specs.Calls as calls;
 use crate::ACCEPTED;
 use crate::WRONG_LENGTH;
+use morphology::Spread;
 use octagon::Answer;
 use octagon::Octagon;
 
@@ -62,6 +64,33 @@ pub fn give(a: Answer, fits: bool, out: &mut [i32]) -> u32
                 return ACCEPTED;
             }
             Answer::Refused(k) => return k,
+        }
+    }
+    WRONG_LENGTH
+}
+
+// The marks of an octagon that is handed over.
+const EXACT: u32 = 0;
+
+const FILLED: u32 = 1;
+
+// The same for an answer with a mark, which is handed over too.
+pub fn give_marked(s: Spread, fits: bool, out: &mut [i32], mark: &mut u32) -> u32
+    ensures { λ r. ⌜ calls.Hands (calls.fitted (fits && calls.is-eight (now (out .entry))) («spread-outcome» s)) calls.marked-parts (now (out .entry), now (mark .entry)) (now (out .exit), now (mark .exit)) r ⌝ }
+{
+    if fits & (out.len() == 8) {
+        match s {
+            Spread::Exact(o) => {
+                put_bounds(out, o);
+                *mark = EXACT;
+                return ACCEPTED;
+            }
+            Spread::Filled(o) => {
+                put_bounds(out, o);
+                *mark = FILLED;
+                return ACCEPTED;
+            }
+            Spread::Refused(k) => return k,
         }
     }
     WRONG_LENGTH

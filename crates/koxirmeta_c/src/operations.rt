@@ -7,6 +7,7 @@ ghost use Rattle.koxirmeta_c.specs.Calls as calls;
 use crate::ACCEPTED;
 use crate::WRONG_LENGTH;
 use crate::octagons::give;
+use crate::octagons::give_marked;
 use crate::octagons::octagon_in;
 use cell_count::Count;
 use cell_count::count_cells;
@@ -50,15 +51,16 @@ pub extern "C" fn kx_count(bounds: &[i32], cells: &mut u32) -> u32
     give_cells(count_cells(octagon_in(bounds)), bounds.len() == 8, cells)
 }
 
-// The dilation of a plot by an element (document 01's spread).
+// The dilation of a plot by an element (document 01's spread), and its mark.
 #[no_mangle]
-pub extern "C" fn kx_dilate(plot: &[i32], element: &[i32], out: &mut [i32]) -> u32
-    ensures { λ r. ⌜ calls.Hands (calls.on-two dilation (now (plot .entry)) (now (element .entry)) (now (out .entry))) calls.bounds-of (now (out .entry)) (now (out .exit)) r ⌝ }
+pub extern "C" fn kx_dilate(plot: &[i32], element: &[i32], out: &mut [i32], mark: &mut u32) -> u32
+    ensures { λ r. ⌜ calls.Hands (calls.on-two dilation (now (plot .entry)) (now (element .entry)) (now (out .entry))) calls.marked-parts (now (out .entry), now (mark .entry)) (now (out .exit), now (mark .exit)) r ⌝ }
 {
-    give(
+    give_marked(
         dilate(octagon_in(plot), octagon_in(element)),
         (plot.len() == 8) & (element.len() == 8),
         out,
+        mark,
     )
 }
 
@@ -74,39 +76,48 @@ pub extern "C" fn kx_erode(plot: &[i32], element: &[i32], out: &mut [i32]) -> u3
     )
 }
 
-// The opening of a plot by an element.
+// The opening of a plot by an element, and its mark.
 #[no_mangle]
-pub extern "C" fn kx_opening(plot: &[i32], element: &[i32], out: &mut [i32]) -> u32
-    ensures { λ r. ⌜ calls.Hands (calls.on-two opened (now (plot .entry)) (now (element .entry)) (now (out .entry))) calls.bounds-of (now (out .entry)) (now (out .exit)) r ⌝ }
+pub extern "C" fn kx_opening(plot: &[i32], element: &[i32], out: &mut [i32], mark: &mut u32) -> u32
+    ensures { λ r. ⌜ calls.Hands (calls.on-two opened (now (plot .entry)) (now (element .entry)) (now (out .entry))) calls.marked-parts (now (out .entry), now (mark .entry)) (now (out .exit), now (mark .exit)) r ⌝ }
 {
-    give(
+    give_marked(
         opening(octagon_in(plot), octagon_in(element)),
         (plot.len() == 8) & (element.len() == 8),
         out,
+        mark,
     )
 }
 
-// The closing of a plot by an element.
+// The closing of a plot by an element, and its mark.
 #[no_mangle]
-pub extern "C" fn kx_closing(plot: &[i32], element: &[i32], out: &mut [i32]) -> u32
-    ensures { λ r. ⌜ calls.Hands (calls.on-two closed (now (plot .entry)) (now (element .entry)) (now (out .entry))) calls.bounds-of (now (out .entry)) (now (out .exit)) r ⌝ }
+pub extern "C" fn kx_closing(plot: &[i32], element: &[i32], out: &mut [i32], mark: &mut u32) -> u32
+    ensures { λ r. ⌜ calls.Hands (calls.on-two closed (now (plot .entry)) (now (element .entry)) (now (out .entry))) calls.marked-parts (now (out .entry), now (mark .entry)) (now (out .exit), now (mark .exit)) r ⌝ }
 {
-    give(
+    give_marked(
         closing(octagon_in(plot), octagon_in(element)),
         (plot.len() == 8) & (element.len() == 8),
         out,
+        mark,
     )
 }
 
-// The n-fold dilation of a plot by an element.
+// The n-fold dilation of a plot by an element, and its mark.
 #[no_mangle]
-pub extern "C" fn kx_dilate_n(plot: &[i32], element: &[i32], n: u32, out: &mut [i32]) -> u32
-    ensures { λ r. ⌜ calls.Hands (calls.on-two (λ p f. «dilation-n» p f n) (now (plot .entry)) (now (element .entry)) (now (out .entry))) calls.bounds-of (now (out .entry)) (now (out .exit)) r ⌝ }
+pub extern "C" fn kx_dilate_n(
+    plot: &[i32],
+    element: &[i32],
+    n: u32,
+    out: &mut [i32],
+    mark: &mut u32,
+) -> u32
+    ensures { λ r. ⌜ calls.Hands (calls.on-two (λ p f. «dilation-n» p f n) (now (plot .entry)) (now (element .entry)) (now (out .entry))) calls.marked-parts (now (out .entry), now (mark .entry)) (now (out .exit), now (mark .exit)) r ⌝ }
 {
-    give(
+    give_marked(
         dilate_n(octagon_in(plot), octagon_in(element), n),
         (plot.len() == 8) & (element.len() == 8),
         out,
+        mark,
     )
 }
 

@@ -1,6 +1,6 @@
 -- The answers of calls, as their definitions compute them from answers that the code took apart. Assumes nothing.
-use mathlib.Core.Path.{_≡_, sym, _∙_, ap}
-use mathlib.Core.Bool.{Bool, true, false, cond}
+use mathlib.Core.Path.{_≡_, sym, _∙_, ap, ap₂}
+use mathlib.Core.Bool.{Bool, false}
 use Prim.Native.Nat.{ℕ, _<_, _≤_}
 use borrow.Author.Tests.{le-ltb, lt-ltb}
 use Rattle.octagon.specs.declared.Octagon.{Octagon}
@@ -8,6 +8,8 @@ use Rattle.octagon.specs.declared.Answer.{Answer}
 use Rattle.octagon.specs.declared.Answer.the-variants.{Octagon as Holds, Refused}
 use Rattle.octagon.specs.Outcome.{Outcome, accepted, refused, then}
 use Rattle.octagon.specs.Answers.{outcome}
+use Rattle.morphology.specs.declared.Spread.{Spread}
+use Rattle.morphology.specs.Marks.{Marked, spread-outcome, marked, unmarked}
 use Rattle.morphology.specs.Operations.{with-both}
 use Rattle.morphology.specs.Folds.{fold-limit, too-many-folds, within-folds}
 use Rattle.morphology.proofs.Operands.{Accepted}
@@ -19,27 +21,46 @@ is-accepted q e = sym q ∙ ap outcome e
 pub is-refused : {r : Answer} {o : Outcome Octagon} {k : ℕ} → outcome r ≡ o → r ≡ Refused k → o ≡ refused k
 is-refused q e = sym q ∙ ap outcome e
 
--- two steps: a refusal of the first is handed back; where it is accepted, the answer x is that of the second
+-- a refusal with a mark is the refusal
+pub refused-alike : {r : Answer} {x y : Outcome Marked} {k : ℕ} → x ≡ marked false (outcome r) → r ≡ Refused k → y ≡ refused k → x ≡ y
+refused-alike d e q = d ∙ ap (λ a. marked false (outcome a)) e ∙ sym q
+
+-- two steps: a refusal of the first is handed back, with a mark or without; where it is accepted, the answer x is that of the second
 pub step-refused : {r : Answer} {o : Outcome Octagon} {k : ℕ} (g : Octagon → Outcome Octagon) → outcome r ≡ o → r ≡ Refused k → outcome r ≡ then o g
 step-refused g q e = ap outcome e ∙ sym (rw (is-refused q e))
 
-pub step-accepted : {r : Answer} {o x : Outcome Octagon} {a : Octagon} (g : Octagon → Outcome Octagon) → outcome r ≡ o → r ≡ Holds a → x ≡ g a → x ≡ then o g
+pub step-refused-marked : {r : Answer} {o : Outcome Octagon} {x : Outcome Marked} {k : ℕ} (g : Octagon → Outcome Marked) →
+    outcome r ≡ o → r ≡ Refused k → x ≡ marked false (outcome r) → x ≡ then o g
+step-refused-marked g q e d = refused-alike d e (ap (λ n. then n g) (is-refused q e))
+
+pub step-accepted : {R : Type 0} {r : Answer} {o : Outcome Octagon} {x : Outcome R} {a : Octagon} (g : Octagon → Outcome R) →
+    outcome r ≡ o → r ≡ Holds a → x ≡ g a → x ≡ then o g
 step-accepted g q e d = d ∙ sym (rw (is-accepted q e))
 
 -- two operands that are both accepted: the answer x is that of the call on their normal forms
-pub both-accepted : {p f a b : Octagon} {x : Outcome Octagon} (g : Octagon → Octagon → Outcome Octagon) → Accepted p f a b → x ≡ g a b → x ≡ with-both p f g
+pub both-accepted : {R : Type 0} {p f a b : Octagon} {x : Outcome R} (g : Octagon → Octagon → Outcome R) → Accepted p f a b → x ≡ g a b → x ≡ with-both p f g
 both-accepted g h d = rw (h .of-p, h .of-f) d
 
 -- too many folds, and few enough
-pub folds-refused : (n : ℕ) (o : Outcome Octagon) → fold-limit < n → refused too-many-folds ≡ within-folds n o
+pub folds-refused : {R : Type 0} (n : ℕ) (o : Outcome R) → fold-limit < n → refused too-many-folds ≡ within-folds n o
 folds-refused n o l = rw (lt-ltb fold-limit n l)
 
-pub folds-taken : {x : Outcome Octagon} (n : ℕ) (o : Outcome Octagon) → n ≤ fold-limit → x ≡ o → x ≡ within-folds n o
+pub folds-taken : {R : Type 0} {x : Outcome R} (n : ℕ) (o : Outcome R) → n ≤ fold-limit → x ≡ o → x ≡ within-folds n o
 folds-taken n o l d = rw (le-ltb fold-limit n l) d
 
--- opposed rows, and all others
-pub chosen : {t : Bool} {x : Outcome Octagon} (y : Outcome Octagon) → t ≡ true → x ≡ cond t x y
-chosen y h = rw h
+-- an answer with a mark, and a marked answer without it
+pub makes-marked : {r : Answer} {a : Octagon} {t : Bool} (u : Bool) → r ≡ Holds a → t ≡ u → accepted (record { is-filled = u; octagon = a }) ≡ marked t (outcome r)
+makes-marked u e h = sym (ap₂ (λ s t. marked t (outcome s)) e h)
 
-pub not-chosen : {t : Bool} {x y : Outcome Octagon} (z : Outcome Octagon) → t ≡ false → x ≡ y → x ≡ cond t z y
-not-chosen z h d = rw h d
+pub makes-refused : {r : Answer} {k : ℕ} (t : Bool) → r ≡ Refused k → refused k ≡ marked t (outcome r)
+makes-refused t e = sym (ap (λ s. marked t (outcome s)) e)
+
+pub makes-unmarked : {s : Spread} (q : Spread) → s ≡ q → unmarked (spread-outcome q) ≡ unmarked (spread-outcome s)
+makes-unmarked q e = sym (ap (λ s. unmarked (spread-outcome s)) e)
+
+-- two steps, the first with a marked answer z
+pub step-marked : {z o x : Outcome Marked} {m : Marked} (g : Marked → Outcome Marked) → z ≡ o → z ≡ accepted m → x ≡ g m → x ≡ then o g
+step-marked g q e d = d ∙ sym (ap (λ n. then n g) (sym q ∙ e))
+
+pub step-marked-refused : {z o : Outcome Marked} {k : ℕ} (g : Marked → Outcome Marked) → z ≡ o → z ≡ refused k → refused k ≡ then o g
+step-marked-refused g q e = sym (ap (λ n. then n g) (sym q ∙ e))

@@ -3,17 +3,19 @@ use mathlib.Core.Path.{_≡_, refl}
 use Rattle.octagon.specs.declared.Octagon.{Octagon}
 use Rattle.octagon.specs.Outcome.{Outcome, accepted}
 use Rattle.octagon.specs.Cells.{Cells, _≐_, Empty, Some, In}
-use Rattle.morphology.specs.Sets.{Dilated, Eroded}
+use Rattle.morphology.specs.Sets.{Dilated, Eroded, OpposedRows}
+use Rattle.morphology.specs.Marks.{Marked, exact, filled}
 use Rattle.morphology.specs.Operations.{nothing-left, dilation, erosion}
 use Rattle.morphology.specs.Premises.{Allowed}
-use Rattle.morphology.specs.Cases.{Answers, Check, Stands, stands, OnOperands}
+use Rattle.morphology.specs.Cases.{Answers, Check, Stands, says-exact, says-filled, Spreads, OnOperands}
 use Rattle.morphology.proofs.SetLaws.{same-sym, same-empty}
-use Rattle.morphology.proofs.Checks.{passing, other, retold, same-set, check-one, stands-one}
+use Rattle.morphology.proofs.Checks.{passing, other, retold, after, check-one}
+use Rattle.morphology.proofs.Handed.{same-set, stands-one}
 use Rattle.morphology.proofs.Dilations.{dilating}
 use Rattle.morphology.proofs.Erosions.{eroding}
 
 -- an answer is the octagon that stands for a set, or 5 where the set has no cell
-abbrev pub Decided : Cells → Answers
+abbrev pub Decided : Cells → Answers Octagon
 Decided A = Check (Empty A) nothing-left (Stands A)
 
 pub decided-by : {A B : Cells} {o : Outcome Octagon} → A ≐ B → Decided A o → Decided B o
@@ -24,17 +26,17 @@ pub decided-same : {A B : Cells} {o q : Outcome Octagon} → A ≐ B → Decided
 decided-same {A} {B} {o} {q} e c d = check-one stands-one o q (decided-by e c) d
 
 -- operands that hold a cell are not refused by an allowed call
-allowed-operands : {C : Answers} {p f : Octagon} {o : Outcome Octagon} → Some (In p) → Some (In f) → Allowed o → OnOperands p f C o → C o
-allowed-operands s t a c =
-    other (a .not-off-map) (passing (λ n. n (t .x) (t .y) (t .cell)) (other (a .not-off-map) (passing (λ n. n (s .x) (s .y) (s .cell)) c)))
+allowed-operands : {R : Type 0} {C : Answers R} {p f : Octagon} {o : Outcome R} → Some (In p) → Some (In f) → Allowed o → OnOperands p f C o → C o
+allowed-operands s t a c = other a (passing (λ n. n (t .x) (t .y) (t .cell)) (other a (passing (λ n. n (s .x) (s .y) (s .cell)) c)))
 
 -- an allowed erosion is decided by the positions that fit
 pub erosion-decided : (p f : Octagon) → Some (In p) → Some (In f) → Allowed (erosion p f) → Decided (Eroded (In p) (In f)) (erosion p f)
-erosion-decided p f s t a = retold (λ n. n, λ n. n) (other (a .not-off-map)) (allowed-operands s t a (eroding p f))
+erosion-decided p f s t a = after (other a) (allowed-operands s t a (eroding p f))
 
--- an allowed dilation is accepted
-pub dilation-allowed : (p f : Octagon) → Some (In p) → Some (In f) → Allowed (dilation p f) → (d : Octagon) × (dilation p f ≡ accepted d)
-dilation-allowed p f s t a = go (other (a .not-off-map) (other (a .not-opposed) (allowed-operands s t a (dilating p f))))
+-- an allowed dilation is accepted, exact or filled
+pub dilation-allowed : (p f : Octagon) → Some (In p) → Some (In f) → Allowed (dilation p f) → (d : Marked) × (dilation p f ≡ accepted d)
+dilation-allowed p f s t a = go (other a (allowed-operands s t a (dilating p f)))
   where
-    go : {o : Outcome Octagon} → Stands (Dilated (In p) (In f)) o → (d : Octagon) × (o ≡ accepted d)
-    go (stands {a = d} r) = (d, refl)
+    go : {o : Outcome Marked} → Spreads (OpposedRows (In p) (In f)) (Dilated (In p) (In f)) o → (d : Marked) × (o ≡ accepted d)
+    go (says-exact {a = d} n r) = (exact d, refl)
+    go (says-filled {a = d} t c) = (filled d, refl)

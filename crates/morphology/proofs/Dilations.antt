@@ -1,5 +1,5 @@
--- The answers of `dilate_n` and `dilate`, each with the case of document 01 in which it is given. Assumes nothing.
-use mathlib.Core.Path.{_≡_, sym, _∙_}
+-- The answers of `dilate_n` and `dilate`, each with the case of documents 01 and 02 in which it is given. Assumes nothing.
+use mathlib.Core.Path.{_≡_, sym, _∙_, ap}
 use mathlib.Core.Logic.{_↔_}
 use mathlib.Core.Bool.{Bool, true, false, cond}
 use Prim.Native.Nat.{ℕ, _≤_}
@@ -9,19 +9,23 @@ use borrow.Author.Tests.{ltb-true, lt-ltb}
 use Rattle.integers.proofs.Tests.{cases, both-true, and-true, true-is-not-false}
 use Rattle.octagon.specs.declared.Octagon.{Octagon}
 use Rattle.octagon.specs.Outcome.{Outcome, accepted, refused}
-use Rattle.octagon.specs.Cells.{_≐_, In, Represents}
+use Rattle.octagon.specs.Cells.{_≐_, In}
 use Rattle.octagon.specs.NormalForm.{normalised, placed, is-on-map}
 use Rattle.octagon.proofs.Outcomes.{accepted-same, accepted-not-refused, then-accepted}
 use Rattle.morphology.specs.Sets.{Dilated, DilatedTimes, OpposedRows}
+use Rattle.morphology.specs.Marks.{Marked}
 use Rattle.morphology.specs.Operations.{sums, are-opposed, dilation}
 use Rattle.morphology.specs.Folds.{multiples, fold-limit, are-opposed-in, dilation-n}
-use Rattle.morphology.specs.Cases.{Dilating, DilatingTimes}
+use Rattle.morphology.specs.Cases.{NoOctagon, Spreading, Dilating, DilatingTimes}
 use Rattle.morphology.proofs.DiagonalRows.{not-opposed, not-opposed′}
-use Rattle.morphology.proofs.Multiples.{multiples-normal, multiples-dilate}
-use Rattle.morphology.proofs.SetLaws.{same-trans, dilated-times-same}
-use Rattle.morphology.proofs.Checks.{by-test, passing, later, after-operands, retold, on-both, represented, placing, check-one, operands-one, stands-one, exactly}
-use Rattle.morphology.proofs.Operands.{Form, Accepted, on-operands}
-use Rattle.morphology.proofs.Pairings.{rows-test}
+use Rattle.morphology.proofs.Multiples.{multiples-dilate}
+use Rattle.morphology.proofs.SetLaws.{same-refl, same-trans, dilated-times-same}
+use Rattle.morphology.proofs.Checks.{by-test, passing, later, after-operands, after, on-both, check-one, operands-one, exactly}
+use Rattle.morphology.proofs.Handed.{spreads-one, spreads-same, placed-spreads, spreading, filled-exactly}
+use Rattle.morphology.proofs.Fillings.{multiples-smallest}
+use Rattle.morphology.proofs.Operands.{Form, form-smallest, Accepted, on-operands}
+use Rattle.morphology.proofs.Pairings.{rows-test, opposed-no-octagon}
+use Rattle.morphology.proofs.FoldedRows.{opposed-times-no-octagon}
 use Rattle.morphology.proofs.FewFolds.{dilation-one}
 
 -- the call on the normal forms a and b of its operands
@@ -35,8 +39,8 @@ module _ (p f : Octagon) (n : ℕ) (a b : Octagon) (h : Form p a) (k : Form f b)
   apart : are-opposed-in n a b ≡ false → 1 ≤ n → are-opposed a b ≡ false
   apart t m = cases (are-opposed a b) (λ u. absurd (true-is-not-false (sym (and-true (lt-ltb 0 n m) u) ∙ t))) (λ u. u)
 
-  exact : are-opposed-in n a b ≡ false → In (sums a (multiples n b)) ≐ DilatedTimes n (In p) (In f)
-  exact t =
+  exact-cells : are-opposed-in n a b ≡ false → In (sums a (multiples n b)) ≐ DilatedTimes n (In p) (In f)
+  exact-cells t =
       same-trans (multiples-dilate n a b (h .normal) (k .normal) (λ m. (not-opposed a b (apart t m), not-opposed′ a b (apart t m))))
       (dilated-times-same n (h .cells) (k .cells))
 
@@ -46,29 +50,38 @@ unfolding dilation-n
 dilating-times p f n =
     by-test (ltb fold-limit n) _ (ltb-true fold-limit n, lt-ltb fold-limit n) λ _.
     on-operands p f _ λ a b h k.
-    by-test (are-opposed-in n a b) _ (opposed-test p f n a b h k) λ t.
-    placing (sums a (multiples n b)) (multiples-normal n a b (h .normal) (k .normal)) (exact p f n a b h k t)
+    placed-spreads (sums a (multiples n b)) (are-opposed-in n a b) (multiples-smallest n (form-smallest h) (form-smallest k)) (opposed-test p f n a b h k) (exact-cells p f n a b h k)
 
 -- and each answer is given exactly where its case holds
-pub dilation-n-exactly : (p f : Octagon) (n : ℕ) (o : Outcome Octagon) → (dilation-n p f n ≡ o) ↔ DilatingTimes p f n o
-dilation-n-exactly p f n = exactly (dilation-n p f n) (check-one (operands-one (check-one (check-one stands-one)))) (dilating-times p f n)
+pub dilation-n-exactly : (p f : Octagon) (n : ℕ) (o : Outcome Marked) → (dilation-n p f n ≡ o) ↔ DilatingTimes p f n o
+dilation-n-exactly p f n = exactly (dilation-n p f n) (check-one (operands-one (check-one spreads-one))) (dilating-times p f n)
 
--- accepted: exactly the n-fold dilation of definition 2.16; normalised, and on the map
-pub dilation-n-accepted : (p f : Octagon) (n : ℕ) (s : Octagon) → dilation-n p f n ≡ accepted s → Represents s (DilatedTimes n (In p) (In f))
-dilation-n-accepted p f n s q = represented (later (later (after-operands (later (dilation-n-exactly p f n (accepted s) .0 q)))))
+-- accepted: exact, the n-fold dilation of definition 2.16; filled, the smallest octagon that holds it; normalised, and on the map
+pub dilation-n-accepted : (p f : Octagon) (n : ℕ) (m : Marked) → dilation-n p f n ≡ accepted m →
+    Spreading ((1 ≤ n) × OpposedRows (In p) (In f)) (DilatedTimes n (In p) (In f)) m
+dilation-n-accepted p f n m q = spreading m (later (after-operands (later (dilation-n-exactly p f n (accepted m) .0 q))))
+
+-- filled exactly where no octagon has just the cells of that set
+pub dilation-n-filled : (p f : Octagon) (n : ℕ) (m : Marked) → dilation-n p f n ≡ accepted m → (m .is-filled ≡ true) ↔ NoOctagon (DilatedTimes n (In p) (In f))
+dilation-n-filled p f n m q = filled-exactly m (dilation-n-accepted p f n m q) (λ t. opposed-times-no-octagon p f n (t .0) (t .1))
 
 -- ---- one fold
 
 pub dilating : (p f : Octagon) → Dilating p f (dilation p f)
 dilating p f =
-    on-both (retold (λ t. t .1, λ r. (omega arith, r)) (λ c. c)) (passing (λ l. omega arith) (rw (dilation-one p f) at (dilating-times p f 1)))
+    on-both (after (spreads-same (λ t. t .1, λ r. (omega arith, r)) (same-refl (Dilated (In p) (In f)))))
+    (passing (λ l. omega arith) (rw (dilation-one p f) at (dilating-times p f 1)))
 
-pub dilation-exactly : (p f : Octagon) (o : Outcome Octagon) → (dilation p f ≡ o) ↔ Dilating p f o
-dilation-exactly p f = exactly (dilation p f) (operands-one (check-one (check-one stands-one))) (dilating p f)
+pub dilation-exactly : (p f : Octagon) (o : Outcome Marked) → (dilation p f ≡ o) ↔ Dilating p f o
+dilation-exactly p f = exactly (dilation p f) (operands-one (check-one spreads-one)) (dilating p f)
 
--- accepted: exactly the sums of a cell of one and a cell of the other; normalised, and on the map
-pub dilation-accepted : (p f s : Octagon) → dilation p f ≡ accepted s → Represents s (Dilated (In p) (In f))
-dilation-accepted p f s q = represented (later (later (after-operands (dilation-exactly p f (accepted s) .0 q))))
+-- accepted: exact, the sums of a cell of one and a cell of the other; filled, the smallest octagon that holds them; normalised, and on the map
+pub dilation-accepted : (p f : Octagon) (m : Marked) → dilation p f ≡ accepted m → Spreading (OpposedRows (In p) (In f)) (Dilated (In p) (In f)) m
+dilation-accepted p f m q = spreading m (later (after-operands (dilation-exactly p f (accepted m) .0 q)))
+
+-- filled exactly where no octagon has just the sums as its cells
+pub dilation-filled : (p f : Octagon) (m : Marked) → dilation p f ≡ accepted m → (m .is-filled ≡ true) ↔ NoOctagon (Dilated (In p) (In f))
+dilation-filled p f m q = filled-exactly m (dilation-accepted p f m q) (opposed-no-octagon p f)
 
 -- and its bounds: the sums of the operands' normal forms
 pub record Sum (p f d : Octagon) : Type 0 where
@@ -77,20 +90,20 @@ pub record Sum (p f d : Octagon) : Type 0 where
   pub operands : Accepted p f a b
   pub is-sums : d ≡ sums a b
 
-pub accepted-sum : (p f d : Octagon) → dilation p f ≡ accepted d → Sum p f d
+pub accepted-sum : (p f : Octagon) (m : Marked) → dilation p f ≡ accepted m → Sum p f (m .octagon)
 unfolding dilation placed
-accepted-sum p f d q =
-    let s = then-accepted (normalised p) _ d q in
-    let t = then-accepted (normalised f) _ d (s .second) in
+accepted-sum p f m q =
+    let s = then-accepted (normalised p) _ m q in
+    let t = then-accepted (normalised f) _ m (s .second) in
     let e = sums (s .between) (t .between) in
+    let u = then-accepted (placed e) _ m (t .second) in
     record {
       a = s .between;
       b = t .between;
       operands = record { of-p = s .first; of-f = t .first };
-      is-sums = told-sum (are-opposed (s .between) (t .between)) (is-on-map e) _ _ e (t .second);
+      is-sums = ap (λ n. n .octagon) (sym (accepted-same (u .second))) ∙ told-sum (is-on-map e) _ e (u .between) (u .first);
     }
   where
-    told-sum : (t u : Bool) (j k : ℕ) (e : Octagon) → cond t (refused k) (cond u (accepted e) (refused j)) ≡ accepted d → d ≡ e
-    told-sum true u j k e q = absurd (accepted-not-refused (sym q))
-    told-sum false true j k e q = sym (accepted-same q)
-    told-sum false false j k e q = absurd (accepted-not-refused (sym q))
+    told-sum : (t : Bool) (k : ℕ) (e d : Octagon) → cond t (accepted e) (refused k) ≡ accepted d → d ≡ e
+    told-sum true k e d q = sym (accepted-same q)
+    told-sum false k e d q = absurd (accepted-not-refused (sym q))

@@ -14,7 +14,8 @@ use Rattle.morphology.specs.Folds.{multiples, fold-limit, erosion-n}
 use Rattle.morphology.specs.Cases.{Eroding, ErodingTimes}
 use Rattle.morphology.proofs.Multiples.{multiples-erode}
 use Rattle.morphology.proofs.SetLaws.{same-trans, eroded-times-same}
-use Rattle.morphology.proofs.Checks.{by-test, passing, skip, later, failed, after-operands, skip-operands, represented, not-refused, check-one, operands-one, stands-one, exactly}
+use Rattle.morphology.proofs.Checks.{by-test, passing, skip, later, failed, after-operands, skip-operands, check-one, operands-one, exactly}
+use Rattle.morphology.proofs.Handed.{represented, not-refused, stands-one}
 use Rattle.morphology.proofs.Operands.{on-operands, fitted}
 use Rattle.morphology.proofs.FewFolds.{erosion-one}
 

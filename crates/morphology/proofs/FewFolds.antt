@@ -1,10 +1,11 @@
--- No folds give the first operand's normal form, and one fold is the plain call. Assumes nothing.
+-- No folds give the first operand's normal form, exact, and one fold is the plain call. Assumes nothing.
 use mathlib.Core.Path.{_≡_, refl}
 use Rattle.octagon.specs.declared.Octagon.{Octagon}
 use Rattle.octagon.specs.Outcome.{accepted}
 use Rattle.octagon.specs.NormalForm.{normalised, placed}
 use Rattle.octagon.proofs.Map.{near-test}
 use Rattle.octagon.proofs.NormalForms.{accepted-near, normalised-again}
+use Rattle.morphology.specs.Marks.{exact}
 use Rattle.morphology.specs.Operations.{sums, differences, dilation, erosion}
 use Rattle.morphology.specs.Folds.{multiples, dilation-n, erosion-n}
 use Rattle.morphology.proofs.Multiples.{sums-zero, sums-suc, differences-zero, differences-suc}
@@ -27,7 +28,7 @@ erosion-one p f = simp differences-one
 
 -- no folds: the first operand, normalised, where both are accepted
 module _ (p f a b : Octagon) (h : normalised p ≡ accepted a) (k : normalised f ≡ accepted b) where
-  pub dilation-none : dilation-n p f 0 ≡ accepted a
+  pub dilation-none : dilation-n p f 0 ≡ accepted (exact a)
   unfolding dilation-n placed
   dilation-none = rw (h, k, sums-zero a b, near-test a (accepted-near p a h)) refl
 

@@ -1,18 +1,23 @@
 -- The laws of demand 3, about the answers of `dilate`, `erode` and `opening`, with the demand's own words above each.
--- The premises are that the operands hold a cell and that the calls which a law names are allowed (specs/Premises.antt); where a law
--- says that a call is accepted, they are asked of the calls before it alone. Assumes nothing.
-use mathlib.Core.Path.{_≡_, refl, _∙_}
-use mathlib.Core.Logic.{_⊎_, inl, inr}
+-- The premises are that the operands hold a cell and that no call which a law names is refused as off the map (specs/Premises.antt);
+-- where a law says that a call is accepted, they are asked of the calls before it alone. A dilation may be exact or filled. Assumes nothing.
+use mathlib.Core.Path.{_≡_, refl, sym, _∙_}
+use mathlib.Core.Logic.{_↔_, _⊎_, inl, inr}
+use native.Mathlib.Omega.{arith}
 use Rattle.octagon.specs.declared.Octagon.{Octagon}
 use Rattle.octagon.specs.Outcome.{Outcome, accepted, refused, then}
 use Rattle.octagon.specs.Cells.{Cells, _⊆_, _≐_, Some, In}
+use Rattle.octagon.specs.NormalForm.{normalised}
+use Rattle.octagon.proofs.Outcomes.{accepted-same, refused-same, accepted-not-refused}
 use Rattle.morphology.specs.Sets.{Dilated, Eroded}
+use Rattle.morphology.specs.Marks.{Marked}
 use Rattle.morphology.specs.Operations.{nothing-left, dilation, erosion, opened}
 use Rattle.morphology.specs.Premises.{Allowed, erosions, AllowedTwice, erosion-by-both, AllowedByBoth, LiesIn, Returned}
 use Rattle.morphology.specs.Cases.{fails, passes, stands}
-use Rattle.morphology.proofs.Checks.{own-form}
+use Rattle.morphology.proofs.Handed.{own-form, covers-some, represents-covers}
 use Rattle.morphology.proofs.Decided.{Decided, decided-same, decided-by, erosion-decided, dilation-allowed}
 use Rattle.morphology.proofs.SetLaws.{same-refl, same-sym, same-trans, eroded-same, eroded-twice, eroded-empty, dilated-comm, adjunction}
+use Rattle.morphology.proofs.Fillings.{eroded-by-smallest}
 use Rattle.morphology.proofs.Dilations.{dilation-accepted, accepted-sum}
 use Rattle.morphology.proofs.Erosions.{erosion-accepted, erosion-nothing}
 use Rattle.morphology.proofs.Openings.{opened-inside, opening-steps, opening-accepted}
@@ -36,9 +41,9 @@ by-both-decided : (p f g : Octagon) → Some (In p) → Some (In f) → Some (In
     Decided (Eroded (In p) (Dilated (In f) (In g))) (erosion-by-both p f g)
 by-both-decided p f g s t u a =
     let r = dilation-allowed f g t u (a .first) in
-    let m = dilation-accepted f g (r .0) (r .1) in
+    let c = dilation-accepted f g (r .0) (r .1) .covers in
     rw (r .1)
-    (decided-by (eroded-same (same-refl (In p)) (m .cells)) (erosion-decided p (r .0) s (m .is-normalised .some) (a .second (r .0) (r .1))))
+    (decided-by (eroded-by-smallest p (c .smallest)) (erosion-decided p (r .0 .octagon) s (covers-some c) (a .second (r .0) (r .1))))
 
 -- eroded twice in the other order
 twice-swapped : (A B C : Cells) → Eroded (Eroded A B) C ≐ Eroded (Eroded A C) B
@@ -66,14 +71,15 @@ erosions-by-both′ p f g s t u a b =
 -- ---- what lies in a plot
 
 -- "An octagon spread by a frame lies in the plot exactly when the octagon lies in the trimmed plot; where nothing is left, none does."
+-- "Containment in an octagon reads the same for filled spreads."
 pub lies-in : (x f p : Octagon) → Some (In x) → Some (In f) → Some (In p) → Allowed (dilation x f) → Allowed (erosion p f) → LiesIn x f p
 lies-in x f p s t u a b =
     let r = dilation-allowed x f s t a in
-    let c = dilation-accepted x f (r .0) (r .1) .cells in
-    let to : In (r .0) ⊆ In p → In x ⊆ Eroded (In p) (In f) =
-    λ h. adjunction (In x) (In p) (In f) .0 (λ v w i. h v w (c v w .1 i)) in
-    let from : In x ⊆ Eroded (In p) (In f) → In (r .0) ⊆ In p =
-    λ h v w i. adjunction (In x) (In p) (In f) .1 h v w (c v w .0 i) in
+    let c = dilation-accepted x f (r .0) (r .1) .covers .smallest in
+    let to : In (r .0 .octagon) ⊆ In p → In x ⊆ Eroded (In p) (In f) =
+    λ h. adjunction (In x) (In p) (In f) .0 (λ v w i. h v w (c .holds v w i)) in
+    let from : In x ⊆ Eroded (In p) (In f) → In (r .0 .octagon) ⊆ In p =
+    λ h. c .least p (adjunction (In x) (In p) (In f) .1 h) in
     record {
       spread = r .0;
       spread-accepted = r .1;
@@ -101,17 +107,44 @@ returns-plot p f s t a =
       returned = erosion-of-dilation p f (r .0) (r .1) ∙ m .operands .of-p;
     }
 
+-- ---- the laws' words at calls that are accepted
+
+-- an accepted call is allowed, and so is one that says that nothing is left
+pub accepted-allowed : {R : Type 0} {o : Outcome R} {a : R} → o ≡ accepted a → Allowed o
+accepted-allowed e q = accepted-not-refused (sym e ∙ q)
+
+pub nothing-allowed : {R : Type 0} {o : Outcome R} → o ≡ refused nothing-left → Allowed o
+nothing-allowed e q = let n = refused-same (sym e ∙ q) in omega (arith, n)
+
+-- "Containment in an octagon reads the same for filled spreads."
+pub contained : (x f p : Octagon) → Some (In x) → Some (In f) → Some (In p) → (d : Marked) (e : Octagon) → dilation x f ≡ accepted d → erosion p f ≡ accepted e →
+    (In (d .octagon) ⊆ In p) ↔ (In x ⊆ In e)
+contained x f p s t u d e q r =
+    let l = lies-in x f p s t u (accepted-allowed q) (accepted-allowed r) in
+    rw (accepted-same (sym q ∙ l .spread-accepted)) (l .exactly e r)
+
+pub contained-nowhere : (x f p : Octagon) → Some (In x) → Some (In f) → Some (In p) → (d : Marked) → dilation x f ≡ accepted d → erosion p f ≡ refused nothing-left →
+    ¬ (In (d .octagon) ⊆ In p)
+contained-nowhere x f p s t u d q r =
+    let l = lies-in x f p s t u (accepted-allowed q) (nothing-allowed r) in
+    rw (accepted-same (sym q ∙ l .spread-accepted)) (l .none r)
+
+-- the plot that is returned is its normal form
+pub returned-form : (p f : Octagon) → Some (In p) → Some (In f) → (d : Marked) → dilation p f ≡ accepted d → erosion (d .octagon) f ≡ normalised p
+returned-form p f s t d q =
+    let r = returns-plot p f s t (accepted-allowed q) in
+    rw (accepted-same (sym q ∙ r .spread-accepted)) (r .returned ∙ sym (r .plot-normalised))
+
 -- ---- opening
 
 -- "An accepted opening never leaves the plot, .."
-pub opening-inside : (p f o : Octagon) → opened p f ≡ accepted o → In o ⊆ In p
-opening-inside p f o q x y i =
-    opened-inside (In p) (In f) x y (opening-accepted p f o q .cells x y .0 i)
+pub opening-inside : (p f : Octagon) (m : Marked) → opened p f ≡ accepted m → In (m .octagon) ⊆ In p
+opening-inside p f m q = opening-accepted p f m q .covers .smallest .least p (opened-inside (In p) (In f))
 
--- ".. and opening it again by the same frame is accepted and gives the same octagon."
-pub opening-again : (p f o : Octagon) → opened p f ≡ accepted o → opened o f ≡ accepted o
+-- ".. and opening it again by the same frame is accepted and gives the same octagon", with the same mark
+pub opening-again : (p f : Octagon) (m : Marked) → opened p f ≡ accepted m → opened (m .octagon) f ≡ accepted m
 unfolding opened
-opening-again p f o q =
-    let s = opening-steps p f o q in
+opening-again p f m q =
+    let s = opening-steps p f m q in
     let e = s .between in
-    rw (erosion-of-dilation e f o (s .second), own-form (erosion-accepted p f e (s .first))) (s .second)
+    rw (erosion-of-dilation e f m (s .second), own-form (represents-covers (erosion-accepted p f e (s .first)))) (s .second)

@@ -1,19 +1,24 @@
 -- Theorems on dilation, erosion, opening, closing and the n-fold forms, and what proofs of functions on them cite.
 pub mod SetLaws
+pub mod Additive
 pub mod Meet
 pub mod Sums
 pub mod Differences
 pub mod Multiples
 pub mod DiagonalRows
 pub mod Holes
+pub mod Fillings
 pub mod Checks
+pub mod Handed
 pub mod Operands
 pub mod Pairings
+pub mod FoldedRows
 pub mod FewFolds
 pub mod Dilations
 pub mod Erosions
 pub mod Openings
 pub mod Closings
+pub mod Forms
 pub mod Decided
 pub mod Laws
 pub mod Calls

@@ -4,15 +4,17 @@ use mathlib.Core.Path.{_≡_, refl}
 use Prim.Native.Nat.{ℕ}
 use Rattle.octagon.specs.declared.Octagon.{Octagon}
 use Rattle.octagon.specs.Outcome.{Outcome, accepted, refused, then, no-cell, off-map}
-use Rattle.octagon.specs.Cells.{Cells, _≐_, Empty, Some, In, LeavesMap}
+use Rattle.octagon.specs.Cells.{Cells, _≐_, Empty, Some, In, LeavesMap, Smallest}
 use Rattle.octagon.specs.NormalForm.{normal-form, normalised}
 use Rattle.octagon.proofs.Within.{Normal}
+use Rattle.octagon.proofs.Vertices.{normal-normalised}
+use Rattle.octagon.proofs.Smallest.{smallest-own}
 use Rattle.octagon.proofs.Normalising.{some-normal, Normalising, is-normal, is-empty, is-off, normalising, form-cells}
 use Rattle.octagon.proofs.NormalForms.{accepted-means, accepted-normal}
 use Rattle.morphology.specs.Operations.{with-both, fitting}
 use Rattle.morphology.specs.Cases.{Answers, Check, fails, passes, stands, OnOperand, OnOperands, Fitting}
 use Rattle.morphology.proofs.SetLaws.{same-refl, same-sym, same-empty, leaves-same}
-use Rattle.morphology.proofs.Checks.{not-empty, stays, represents-same}
+use Rattle.morphology.proofs.Handed.{not-empty, stays, represents-same}
 
 -- ---- normal forms
 
@@ -25,6 +27,10 @@ pub record Form (p a : Octagon) : Type 0 where
 pub form-of : (p : Octagon) → Some (In p) → Form p (normal-form p)
 form-of p s = record { normal = some-normal p s; cells = form-cells p }
 
+-- the form is the smallest octagon that holds those cells
+pub form-smallest : {p a : Octagon} → Form p a → Smallest a (In p)
+form-smallest {p} {a} h = smallest-own p a .1 (normal-normalised a (h .normal), h .cells)
+
 -- both operands of a call, accepted
 pub record Accepted (p f a b : Octagon) : Type 0 where
   pub of-p : normalised p ≡ accepted a
@@ -33,10 +39,10 @@ pub record Accepted (p f a b : Octagon) : Type 0 where
 -- ---- the checks
 
 -- an answer that h makes of a normalised octagon with the cells of A
-judged : {A : Cells} {k : ℕ} {C : Answers} (d : Octagon) (h : Outcome Octagon → Outcome Octagon) → In d ≐ A →
+judged : {R : Type 0} {A : Cells} {k : ℕ} {C : Answers R} (d : Octagon) (h : Outcome Octagon → Outcome R) → In d ≐ A →
     h (refused no-cell) ≡ refused k → h (refused off-map) ≡ refused off-map → ((a : Octagon) → normalised d ≡ accepted a → C (h (accepted a))) →
     Check (Empty A) k (Check (LeavesMap A) off-map C) (h (normalised d))
-judged {A} {k} {C} d h e p q f = go (normalising d) refl
+judged {R} {A} {k} {C} d h e p q f = go (normalising d) refl
   where
     go : {o : Outcome Octagon} → Normalising d o → normalised d ≡ o → Check (Empty A) k (Check (LeavesMap A) off-map C) (h o)
     go (is-normal a _ _ _ _) r =
@@ -46,10 +52,10 @@ judged {A} {k} {C} d h e p q f = go (normalising d) refl
     go (is-off _ l) r = rw q (passes (λ n. n (l .x) (l .y) (e (l .x) (l .y) .0 (l .cell .0))) (fails (leaves-same e l)))
 
 -- a call on two operands, by what it answers on their normal forms
-on-operand : {C : Answers} (p : Octagon) (g : Octagon → Outcome Octagon) → ((a : Octagon) → Form p a → C (g a)) → OnOperand p C (then (normalised p) g)
+on-operand : {R : Type 0} {C : Answers R} (p : Octagon) (g : Octagon → Outcome R) → ((a : Octagon) → Form p a → C (g a)) → OnOperand p C (then (normalised p) g)
 on-operand p g f = judged p (λ o. then o g) (same-refl (In p)) refl refl (λ a q. f a (record { normal = accepted-normal p a q; cells = accepted-means p a q .cells }))
 
-pub on-operands : {C : Answers} (p f : Octagon) (g : Octagon → Octagon → Outcome Octagon) →
+pub on-operands : {R : Type 0} {C : Answers R} (p f : Octagon) (g : Octagon → Octagon → Outcome R) →
     ((a b : Octagon) → Form p a → Form f b → C (g a b)) → OnOperands p f C (with-both p f g)
 on-operands p f g h = on-operand p (λ a. then (normalised f) (λ b. g a b)) (λ a i. on-operand f (λ b. g a b) (λ b j. h a b i j))
 

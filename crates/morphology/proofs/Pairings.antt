@@ -1,21 +1,23 @@
 -- Pairings of any octagons, however slack their bounds: opposed diagonal rows, whose dilation is no octagon, and all others, whose
--- dilation is the octagon of the sums. Assumes nothing.
-use mathlib.Core.Path.{_≡_}
+-- dilation is the octagon of the sums. In either case the sums are the smallest octagon that holds it. Assumes nothing.
+use mathlib.Core.Path.{_≡_, sym, _∙_}
 use mathlib.Core.Logic.{_↔_, inl, inr}
 use mathlib.Core.Bool.{true}
 use lib.IntN.{ℤ}
-use Rattle.integers.proofs.Tests.{cases}
+use Rattle.integers.proofs.Tests.{cases, true-is-not-false}
 use Rattle.octagon.specs.declared.Octagon.{Octagon}
-use Rattle.octagon.specs.Cells.{Cells, _≐_, Some, In, Normalised}
+use Rattle.octagon.specs.Cells.{Cells, _≐_, Some, In, Normalised, Smallest}
 use Rattle.octagon.specs.NormalForm.{normal-form}
 use Rattle.octagon.proofs.Vertices.{normal-normalised}
 use Rattle.morphology.specs.Sets.{Dilated, Two, DiagonalRow, OpposedRows}
 use Rattle.morphology.specs.Operations.{sums, are-opposed}
+use Rattle.morphology.specs.Cases.{NoOctagon}
 use Rattle.morphology.proofs.Sums.{summed, summed-normal, sums-exact}
 use Rattle.morphology.proofs.DiagonalRows.{opposed-rows-test, not-opposed, not-opposed′}
 use Rattle.morphology.proofs.Holes.{no-octagon}
 use Rattle.morphology.proofs.SetLaws.{same-sym, same-trans, same-some, dilated-same}
-use Rattle.morphology.proofs.Operands.{Form, form-of}
+use Rattle.morphology.proofs.Fillings.{sums-smallest}
+use Rattle.morphology.proofs.Operands.{Form, form-of, form-smallest}
 
 two-same : {A B : Cells} → A ≐ B → Two A → Two B
 unfolding same-some
@@ -28,7 +30,7 @@ pub opposed-same : {A B C D : Cells} → A ≐ C → B ≐ D → OpposedRows A B
 opposed-same e f (inl r) = inl (row-same e (r .0), row-same f (r .1))
 opposed-same e f (inr r) = inr (row-same e (r .0), row-same f (r .1))
 
-opposed-some : {A B : Cells} → OpposedRows A B → Some A × Some B
+pub opposed-some : {A B : Cells} → OpposedRows A B → Some A × Some B
 opposed-some (inl r) = (r .0 .two .one, r .1 .two .one)
 opposed-some (inr r) = (r .0 .two .one, r .1 .two .one)
 
@@ -54,10 +56,24 @@ sums-are-dilation p f s t o =
     )
 
 -- "Spreading one by the other leaves holes, so no octagon is the true answer."
-pub opposed-no-octagon : (p f s : Octagon) → OpposedRows (In p) (In f) → ¬ (In s ≐ Dilated (In p) (In f))
-opposed-no-octagon p f s r e =
+pub opposed-no-octagon : (p f : Octagon) → OpposedRows (In p) (In f) → NoOctagon (Dilated (In p) (In f))
+opposed-no-octagon p f r s e =
     let t = opposed-some r in
     let h = form-of p (t .0) in
     let k = form-of f (t .1) in
     no-octagon (normal-form p) (normal-form f) s (h .normal) (k .normal) (opposed-same (same-sym (h .cells)) (same-sym (k .cells)) r)
     (same-trans e (dilated-same (same-sym (h .cells)) (same-sym (k .cells))))
+
+-- and these are all the pairings that no octagon is the true answer of
+pub opposed-exactly : (p f : Octagon) → Some (In p) → Some (In f) → OpposedRows (In p) (In f) ↔ NoOctagon (Dilated (In p) (In f))
+opposed-exactly p f s t =
+    let a = normal-form p in
+    let b = normal-form f in
+    let r = rows-test p f a b (form-of p s) (form-of f t) in (
+      opposed-no-octagon p f,
+      λ n. cases (are-opposed a b) (λ e. r .0 e) (λ e. absurd (n (sums a b) (sums-are-dilation p f s t (λ o. true-is-not-false (sym (r .1 o) ∙ e)) .0))),
+    )
+
+-- "A spread of opposed diagonal rows shall now give the smallest octagon that holds all the sums": the sums of any two are that
+pub sums-are-smallest : (p f : Octagon) → Some (In p) → Some (In f) → Smallest (sums (normal-form p) (normal-form f)) (Dilated (In p) (In f))
+sums-are-smallest p f s t = sums-smallest (form-smallest (form-of p s)) (form-smallest (form-of f t))

@@ -81,6 +81,36 @@ dilated-comm A B x y = (turn A B, turn B A)
       sum-y = rw (+ℤ-comm (d .by) (d .ay)) (d .sum-y);
     }
 
+-- nor does dilation by two sets, one after the other
+swapped : (A B C : Cells) → Dilated (Dilated A B) C ⊆ Dilated (Dilated A C) B
+swapped A B C x y s =
+    let t = s .of-a in
+    record {
+      ax = t .ax +ℤ s .bx;
+      ay = t .ay +ℤ s .by;
+      bx = t .bx;
+      by = t .by;
+      of-a = record { ax = t .ax; ay = t .ay; bx = s .bx; by = s .by; of-a = t .of-a; of-b = s .of-b; sum-x = refl; sum-y = refl };
+      of-b = t .of-b;
+      sum-x = turned (t .ax) (t .bx) (s .ax) (s .bx) x (t .sum-x) (s .sum-x);
+      sum-y = turned (t .ay) (t .by) (s .ay) (s .by) y (t .sum-y) (s .sum-y);
+    }
+  where
+    turned : (a b c d x : ℤ) → a +ℤ b ≡ c → c +ℤ d ≡ x → (a +ℤ d) +ℤ b ≡ x
+    turned a b c d x h k = rw (+ℤ-assoc a d b, +ℤ-comm d b, ← +ℤ-assoc a b d, h) k
+
+swap : (A B C : Cells) → Dilated (Dilated A B) C ≐ Dilated (Dilated A C) B
+swap A B C x y = (swapped A B C x y, swapped A C B x y)
+
+-- so a dilation can be made before k folds or after them, and so can m folds
+pub past-one : (A B C : Cells) (k : ℕ) → DilatedTimes k (Dilated A C) B ≐ Dilated (DilatedTimes k A B) C
+past-one A B C zero = same-refl (Dilated A C)
+past-one A B C (suc k) = same-trans (dilated-same (past-one A B C k) (same-refl B)) (swap (DilatedTimes k A B) C B)
+
+pub past : (A B C : Cells) (k m : ℕ) → DilatedTimes k (DilatedTimes m A C) B ≐ DilatedTimes m (DilatedTimes k A B) C
+past A B C k zero = same-refl (DilatedTimes k A B)
+past A B C k (suc m) = same-trans (past-one (DilatedTimes m A C) B C k) (dilated-same (past A B C k m) (same-refl C))
+
 -- x + (v + w) as a sum of x + w and v
 regroup : (x v w : ℤ) → (x +ℤ w) +ℤ v ≡ x +ℤ (v +ℤ w)
 regroup x v w = rw (+ℤ-assoc x w v, +ℤ-comm w v) refl

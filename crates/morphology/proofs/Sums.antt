@@ -6,7 +6,7 @@ use lib.IntN.{ℤ, _+ℤ_, _-ℤ_}
 use Rattle.integers.proofs.Parts.{sum-parts, diff-parts}
 use Rattle.integers.proofs.Linear.{#, _⊕_, neg, _≈_, int, int-parts, same}
 use Rattle.octagon.specs.declared.Octagon.{Octagon}
-use Rattle.octagon.specs.Cells.{_≐_, In}
+use Rattle.octagon.specs.Cells.{Cells, _⊆_, _≐_, In}
 use Rattle.octagon.proofs.Within.{Within, Normal, within, cell-in}
 use Rattle.octagon.proofs.Unique.{both-ways}
 use Rattle.morphology.specs.Sets.{Dilated}
@@ -49,8 +49,14 @@ pub summed-normal : (a b s : Octagon) → Summed a b s → Normal a → Normal b
 summed-normal a b s h n k = omega arith
 
 -- the sum of two cells is within the sums
-pub join : (a b s : Octagon) → Summed a b s → (v w x y : ℤ) → Within a v w → Within b x y → Within s (v +ℤ x) (w +ℤ y)
+join : (a b s : Octagon) → Summed a b s → (v w x y : ℤ) → Within a v w → Within b x y → Within s (v +ℤ x) (w +ℤ y)
 join a b s h v w x y i j = omega (arith, sum-parts v x, sum-parts w y)
+
+-- so the sums hold the sums of any sets that the octagons hold
+pub sums-hold : {a b : Octagon} {A B : Cells} → A ⊆ In a → B ⊆ In b → Dilated A B ⊆ In (sums a b)
+sums-hold {a} {b} h k x y d =
+    rw (← d .sum-x, ← d .sum-y)
+    (cell-in (join a b (sums a b) (summed a b) (d .ax) (d .ay) (d .bx) (d .by) (within (h (d .ax) (d .ay) (d .of-a))) (within (k (d .bx) (d .by) (d .of-b)))))
 
 -- e holds (x - v, y - w) for each cell (v, w) of b: the reflection of b in (x, y)
 record Mirror (b e : Octagon) (x y : ℤ) : Type 0 where
@@ -100,7 +106,7 @@ there-and-back v x = same (# x) (omega (arith, sum-parts v (x -ℤ v), diff-part
 
 -- the sums of normal bounds that are not opposed bound exactly the sums of the cells
 pub sums-exact : (a b : Octagon) → Normal a → Normal b → ¬ (Opposed a b) → ¬ (Opposed b a) → In (sums a b) ≐ Dilated (In a) (In b)
-sums-exact a b n k o o′ x y = (to, from)
+sums-exact a b n k o o′ x y = (to, sums-hold (λ v w i. i) (λ v w i. i) x y)
   where
     to : In (sums a b) x y → Dilated (In a) (In b) x y
     to i =
@@ -115,6 +121,3 @@ sums-exact a b n k o o′ x y = (to, from)
           sum-x = there-and-back (t .v) x;
           sum-y = there-and-back (t .w) y;
         }
-
-    from : Dilated (In a) (In b) x y → In (sums a b) x y
-    from d = rw (← d .sum-x, ← d .sum-y) (cell-in (join a b (sums a b) (summed a b) (d .ax) (d .ay) (d .bx) (d .by) (within (d .of-a)) (within (d .of-b))))

@@ -7,11 +7,9 @@ use lib.Signed.{leZ}
 use Rattle.octagon.specs.declared.Octagon.{Octagon}
 use Rattle.octagon.specs.Outcome.{Outcome, accepted, refused, then, no-cell}
 use Rattle.octagon.specs.NormalForm.{normalised, placed}
+use Rattle.morphology.specs.Marks.{Marked, marked}
 
--- the refusal numbers of this crate: opposed diagonal rows; no position fits
-abbrev pub opposed-rows : ℕ
-opposed-rows = 4
-
+-- the refusal number of this file: no position fits
 abbrev pub nothing-left : ℕ
 nothing-left = 5
 
@@ -56,22 +54,30 @@ unfoldable pub are-opposed : Octagon → Octagon → Bool
 are-opposed a b = (is-rising a && is-falling b) || (is-falling a && is-rising b)
 
 -- both operands normalised, the first before the second
-abbrev pub with-both : Octagon → Octagon → (Octagon → Octagon → Outcome Octagon) → Outcome Octagon
+abbrev pub with-both : {R : Type 0} → Octagon → Octagon → (Octagon → Octagon → Outcome R) → Outcome R
 with-both p f g = then (normalised p) (λ a. then (normalised f) (λ b. g a b))
 
+-- the dilation of normal forms: the sums, placed, and filled where the two are opposed rows (document 02's U4)
+abbrev pub dilation-of-forms : Octagon → Octagon → Outcome Marked
+dilation-of-forms a b = marked (are-opposed a b) (placed (sums a b))
+
 -- the dilation of p by f (document 01's spread)
-unfoldable pub dilation : Octagon → Octagon → Outcome Octagon
-dilation p f = with-both p f (λ a b. cond (are-opposed a b) (refused opposed-rows) (placed (sums a b)))
+unfoldable pub dilation : Octagon → Octagon → Outcome Marked
+dilation p f = with-both p f dilation-of-forms
 
 -- no cell, as no position that fits
 abbrev pub fitting : Outcome Octagon → Outcome Octagon
 fitting (accepted a) = accepted a
 fitting (refused n) = refused (cond (eqb n no-cell) nothing-left n)
 
+-- the erosion of normal forms: the normal form of the differences
+abbrev pub erosion-of-forms : Octagon → Octagon → Outcome Octagon
+erosion-of-forms a b = fitting (normalised (differences a b))
+
 -- the erosion of p by f (document 01's trim)
 unfoldable pub erosion : Octagon → Octagon → Outcome Octagon
-erosion p f = with-both p f (λ a b. fitting (normalised (differences a b)))
+erosion p f = with-both p f erosion-of-forms
 
--- the opening of p by f: the erosion, and where that is accepted the dilation of what it left
-unfoldable pub opened : Octagon → Octagon → Outcome Octagon
+-- the opening of p by f: the erosion, and where that is accepted the dilation of what it left, with its mark
+unfoldable pub opened : Octagon → Octagon → Outcome Marked
 opened p f = then (erosion p f) (λ e. dilation e f)

@@ -6,12 +6,12 @@ use Rattle.octagon.specs.declared.Octagon.{Octagon}
 use Rattle.octagon.specs.Outcome.{Outcome, accepted, refused, then, off-map}
 use Rattle.octagon.specs.Cells.{_⊆_, In}
 use Rattle.octagon.specs.NormalForm.{normalised}
-use Rattle.morphology.specs.Operations.{opposed-rows, nothing-left, dilation, erosion}
+use Rattle.morphology.specs.Marks.{Marked}
+use Rattle.morphology.specs.Operations.{nothing-left, dilation, erosion}
 
--- a call that is refused neither as off the map nor as opposed diagonal rows
-pub record Allowed (o : Outcome Octagon) : Type 0 where
-  pub not-off-map : ¬ (o ≡ refused off-map)
-  pub not-opposed : ¬ (o ≡ refused opposed-rows)
+-- a call that is not refused as off the map
+abbrev pub Allowed : {R : Type 0} → Outcome R → Type 0
+Allowed o = ¬ (o ≡ refused off-map)
 
 -- eroding by f and then by g; where the first gives 5, that is the answer of the two
 abbrev pub erosions : Octagon → Octagon → Octagon → Outcome Octagon
@@ -22,26 +22,27 @@ pub record AllowedTwice (p f g : Octagon) : Type 0 where
   pub first : Allowed (erosion p f)
   pub second : (e : Octagon) → erosion p f ≡ accepted e → Allowed (erosion e g)
 
--- eroding by the dilation of f and g, both calls allowed
+-- eroding by the dilation of f and g, exact or filled, both calls allowed
 abbrev pub erosion-by-both : Octagon → Octagon → Octagon → Outcome Octagon
-erosion-by-both p f g = then (dilation f g) (λ d. erosion p d)
+erosion-by-both p f g = then (dilation f g) (λ d. erosion p (d .octagon))
 
 pub record AllowedByBoth (p f g : Octagon) : Type 0 where
   pub first : Allowed (dilation f g)
-  pub second : (d : Octagon) → dilation f g ≡ accepted d → Allowed (erosion p d)
+  pub second : (d : Marked) → dilation f g ≡ accepted d → Allowed (erosion p (d .octagon))
 
 -- "An octagon spread by a frame lies in the plot exactly when the octagon lies in the trimmed plot; where nothing is left, none does."
+-- "Containment in an octagon reads the same for filled spreads."
 pub record LiesIn (x f p : Octagon) : Type 0 where
-  pub spread : Octagon
+  pub spread : Marked
   pub spread-accepted : dilation x f ≡ accepted spread
   pub trimmed-or-nothing : ((e : Octagon) × (erosion p f ≡ accepted e)) ⊎ (erosion p f ≡ refused nothing-left)
-  pub exactly : (e : Octagon) → erosion p f ≡ accepted e → (In spread ⊆ In p) ↔ (In x ⊆ In e)
-  pub none : erosion p f ≡ refused nothing-left → ¬ (In spread ⊆ In p)
+  pub exactly : (e : Octagon) → erosion p f ≡ accepted e → (In (spread .octagon) ⊆ In p) ↔ (In x ⊆ In e)
+  pub none : erosion p f ≡ refused nothing-left → ¬ (In (spread .octagon) ⊆ In p)
 
 -- "Spreading and then trimming by one frame is accepted and returns exactly the plot's cells": the plot's normal form
 pub record Returned (p f : Octagon) : Type 0 where
-  pub spread : Octagon
+  pub spread : Marked
   pub spread-accepted : dilation p f ≡ accepted spread
   pub plot : Octagon
   pub plot-normalised : normalised p ≡ accepted plot
-  pub returned : erosion spread f ≡ accepted plot
+  pub returned : erosion (spread .octagon) f ≡ accepted plot

@@ -1,8 +1,9 @@
 // n-fold dilation and erosion, in constant time whatever n is (document 01's n-fold spread and trim).
 ghost use mathlib.Core.Path.{_≡_};
 ghost use Rattle.octagon.specs.Answers.{outcome};
+ghost use Rattle.morphology.specs.Marks.{«spread-outcome»};
 ghost use Rattle.morphology.specs.Folds as spec;
-use crate::OPPOSED_ROWS;
+use crate::Spread;
 use crate::bounds::differences;
 use crate::bounds::fit;
 use crate::bounds::multiples;
@@ -19,25 +20,22 @@ pub const FOLD_LIMIT: u32 = 65_535;
 // The refusal number of document 01 that this file adds.
 pub const TOO_MANY_FOLDS: u32 = 6;
 
-// The plot dilated n times by the element.
-pub fn dilate_n(plot: Octagon, element: Octagon, n: u32) -> Answer
-    ensures { λ r. ⌜ outcome r ≡ spec.dilation-n plot element n ⌝ }
+// The plot dilated n times by the element; filled where n is at least 1 and the two are opposed rows.
+pub fn dilate_n(plot: Octagon, element: Octagon, n: u32) -> Spread
+    ensures { λ r. ⌜ «spread-outcome» r ≡ spec.dilation-n plot element n ⌝ }
 {
     if FOLD_LIMIT < n {
-        return Answer::Refused(TOO_MANY_FOLDS);
+        return Spread::Refused(TOO_MANY_FOLDS);
     }
     let first = normalise(plot);
     let Answer::Octagon(a) = first else {
-        return first;
+        return Spread::new(first, false);
     };
     let second = normalise(element);
     let Answer::Octagon(b) = second else {
-        return second;
+        return Spread::new(second, false);
     };
-    if (0 < n) & are_opposed(a, b) {
-        return Answer::Refused(OPPOSED_ROWS);
-    }
-    place(sums(a, multiples(n, b)))
+    Spread::new(place(sums(a, multiples(n, b))), (0 < n) & are_opposed(a, b))
 }
 
 // The plot eroded n times by the element.

@@ -111,6 +111,13 @@ module _ {a : Octagon} {A : Cells} (s : Smallest a A) where
   pub within-or-leaving : {R : Type 0} → (A ⊆ OnMap → R) → (LeavesMap A → R) → R
   within-or-leaving f g = cases (is-on-map a) (λ h. f (test-means h)) (λ h. g (far-reached a (s .reached) h))
 
+  -- it leaves the map exactly where the set does
+  pub smallest-leaves : LeavesMap (In a) ↔ LeavesMap A
+  smallest-leaves = (
+    λ l. within-or-leaving (λ h. absurd (l .cell .1 (smallest-on-map s h (l .x) (l .y) (l .cell .0)))) (λ k. k),
+    λ l. some-in (s .holds) l,
+  )
+
 -- ---- of the cells of an octagon
 
 -- the smallest octagon that holds the cells of c is the one that is normalised and has them

@@ -8,7 +8,7 @@ abbrev Inv-loop : tie.InvT-loop
 Inv-loop k₀ k = Unit {0}
 
 abbrev μ-loop : tie.MeasureT-loop
-μ-loop k₀ k = 14 - k
+μ-loop k₀ k = 16 - k
 
 pub extremes-spec : {M : Type 1} → statement M
 extremes-spec =

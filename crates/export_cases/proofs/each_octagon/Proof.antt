@@ -8,7 +8,7 @@ abbrev Inv-loop : tie.InvT-loop
 Inv-loop k₀ k = Unit {0}
 
 abbrev μ-loop : tie.MeasureT-loop
-μ-loop k₀ k = 13 - k
+μ-loop k₀ k = 15 - k
 
 pub each-octagon-spec : {M : Type 1} → statement M
 each-octagon-spec =

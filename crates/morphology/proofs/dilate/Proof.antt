@@ -1,12 +1,8 @@
--- `dilate` meets its contract: a refused operand is handed back, opposed rows are refused, and the sums of all others placed.
--- Assumes nothing.
-use mathlib.Core.Path.{_∙_, ap}
+-- `dilate` meets its contract: a refused operand is handed back, and the normal forms of accepted ones are dilated. Assumes nothing.
 use borrow.Author.Needs.{needs}
-use Rattle.integers.proofs.Range.{told}
-use Rattle.octagon.specs.NormalForm.{placed}
 use Rattle.morphology.specs.Operations.{dilation}
 use Rattle.morphology.proofs.Operands.{Accepted}
-use Rattle.morphology.proofs.Calls.{is-accepted, step-refused, step-accepted, both-accepted, chosen, not-chosen}
+use Rattle.morphology.proofs.Calls.{is-accepted, step-refused-marked, step-accepted, both-accepted}
 use Rattle.morphology.proofs.Widths.{sums-held}
 use Rattle.morphology.proofs.dilate.Statement.{statement}
 use Rattle.morphology.proofs.dilate.Tie as tie
@@ -25,27 +21,19 @@ operands t = record { of-p = search is-accepted; of-f = search is-accepted }
 -- a refused operand
 returns : tie.Need-returns
 unfolding dilation
-returns c = search step-refused
+returns c = search step-refused-marked
 
 returns-2 : tie.Need-returns-2
 unfolding dilation
-returns-2 c = search (step-accepted, step-refused)
+returns-2 c = search (step-accepted, step-refused-marked)
 
 -- two accepted operands
+dilate-forms-requires : tie.Need-dilate-forms-requires
+dilate-forms-requires c κs = sums-held (operands (search))
+
 returns-3 : tie.Need-returns-3
 unfolding dilation
-returns-3 c = both-accepted _ (operands (search)) (chosen _ (told (c .if1 .taken) (c .before .are-opposed .ensures)))
-
-sums-requires : tie.Need-sums-requires
-sums-requires c κs = sums-held (operands (search))
-
-returns-4 : tie.Need-returns-4
-unfolding dilation
-returns-4 c =
-    let at-sums = c .before in
-    let at-else = at-sums .before in
-    both-accepted _ (operands (search))
-    (not-chosen _ (told (at-else .if1 .left) (at-else .before .are-opposed .ensures)) (c .place .ensures ∙ ap placed (at-sums .sums .ensures)))
+returns-3 c = both-accepted _ (operands (search)) (c .dilate-forms .ensures)
 
 pub dilate-spec : {M : Type 1} → statement M
 dilate-spec =
@@ -54,13 +42,12 @@ dilate-spec =
     (λ c κs. search needs)
     (λ c. search needs)
     (λ c. search needs)
+    (λ c κs. search needs)
     returns
     (λ c κs. search needs)
     (λ c. search needs)
     (λ c. search needs)
+    (λ c κs. search needs)
     returns-2
-    (λ c κs. search needs)
-    returns-3
-    sums-requires
-    (λ c κs. search needs)
-    returns-4)
+    dilate-forms-requires
+    returns-3)

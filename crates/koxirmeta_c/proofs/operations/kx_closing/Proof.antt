@@ -7,8 +7,8 @@ use Rattle.koxirmeta_c.proofs.operations.kx_closing.Statement.{statemen
 use Rattle.koxirmeta_c.proofs.operations.kx_closing.Tie as tie
 
 returns : tie.Need-returns
-returns c = let made = c .before .before .before in
-    same-fitted _ (made .closing .ensures ∙ ap₂ closed (made .before .before .octagon-in .ensures) (made .before .octagon-in2 .ensures)) (c .before .give .ensures)
+returns c = let made = c .before .before .before .before in
+    same-fitted _ (made .closing .ensures ∙ ap₂ closed (made .before .before .octagon-in .ensures) (made .before .octagon-in2 .ensures)) (c .before .give-marked .ensures)
 
 pub kx-closing-spec : {M : Type 1} → statement M
 kx-closing-spec = tie.close (tie.spec (λ c κs. search needs) (λ c κs. search needs) (λ c κs. search needs) (λ c κs. search needs) (λ c. search needs) returns)

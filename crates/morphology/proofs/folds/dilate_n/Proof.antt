@@ -1,14 +1,16 @@
--- `dilate_n` meets its contract: refusals in document 01's order, else the sums with n times the element's bounds. Assumes nothing.
-use mathlib.Core.Path.{refl, _∙_, ap}
+-- `dilate_n` meets its contract: refusals in document 01's order, else the sums with n times the element's bounds, placed and marked.
+-- Assumes nothing.
+use mathlib.Core.Path.{refl, _∙_, ap, ap₂}
 use Prim.Native.Nat.{_≤_}
 use lib.Dec.{ltb}
 use borrow.Author.Needs.{needs}
-use Rattle.integers.proofs.Range.{told, and-is}
+use Rattle.integers.proofs.Range.{and-is}
 use Rattle.octagon.specs.NormalForm.{placed}
+use Rattle.morphology.specs.Marks.{marked}
 use Rattle.morphology.specs.Operations.{sums}
 use Rattle.morphology.specs.Folds.{fold-limit, dilation-n}
 use Rattle.morphology.proofs.Operands.{Accepted}
-use Rattle.morphology.proofs.Calls.{is-accepted, step-refused, step-accepted, both-accepted, chosen, not-chosen, folds-refused, folds-taken}
+use Rattle.morphology.proofs.Calls.{is-accepted, step-refused-marked, step-accepted, both-accepted, folds-refused, folds-taken}
 use Rattle.morphology.proofs.Widths.{multiples-held, sums-folded-held}
 use Rattle.morphology.proofs.folds.dilate_n.Statement.{statement}
 use Rattle.morphology.proofs.folds.dilate_n.Tie as tie
@@ -37,19 +39,13 @@ returns c = folds-refused _ _ (c .if1 .taken)
 
 returns-2 : tie.Need-returns-2
 unfolding dilation-n
-returns-2 c = search (folds-taken, step-refused)
+returns-2 c = search (folds-taken, step-refused-marked)
 
 returns-3 : tie.Need-returns-3
 unfolding dilation-n
-returns-3 c = search (folds-taken, step-accepted, step-refused)
+returns-3 c = search (folds-taken, step-accepted, step-refused-marked)
 
 -- two accepted operands
-returns-4 : tie.Need-returns-4
-unfolding dilation-n
-returns-4 c =
-    let t : tie.After-second = search in
-    folds-taken _ _ (few t) (both-accepted _ (operands t) (chosen _ (told (c .if2 .taken) (and-is {a = ltb 0 (at-start t .args .n)} refl (c .before .are-opposed .ensures)))))
-
 multiples-requires : tie.Need-multiples-requires
 multiples-requires c κs = let t : tie.After-second = search in multiples-held (operands t) _ (few t)
 
@@ -58,17 +54,18 @@ sums-requires c κs =
     let t : tie.After-second = search in
     rw (c .multiples .ensures) (sums-folded-held (operands t) _ (few t))
 
-returns-5 : tie.Need-returns-5
+returns-4 : tie.Need-returns-4
 unfolding dilation-n
-returns-5 c =
-    let at-sums = c .before in
-    let at-multiples = at-sums .before in
-    let at-else = at-multiples .before in
+returns-4 c =
+    let at-test = c .before in
+    let at-place = at-test .before in
+    let at-sums = at-place .before in
     let t : tie.After-second = search in
     folds-taken _ _ (few t)
     (both-accepted _ (operands t)
-    (not-chosen _ (told (at-else .if2 .left) (and-is {a = ltb 0 (at-start t .args .n)} refl (at-else .before .are-opposed .ensures)))
-    (c .place .ensures ∙ ap placed (at-sums .sums .ensures ∙ ap (sums _) (at-multiples .multiples .ensures)))))
+    (c .new3 .ensures ∙
+    ap₂ marked (and-is {a = ltb 0 (at-start t .args .n)} refl (at-test .are-opposed .ensures))
+    (at-place .place .ensures ∙ ap placed (at-sums .sums .ensures ∙ ap (sums _) (at-sums .before .multiples .ensures)))))
 
 pub dilate-n-spec : {M : Type 1} → statement M
 dilate-n-spec =
@@ -78,14 +75,16 @@ dilate-n-spec =
     (λ c κs. search needs)
     (λ c. search needs)
     (λ c. search needs)
+    (λ c κs. search needs)
     returns-2
     (λ c κs. search needs)
     (λ c. search needs)
     (λ c. search needs)
-    returns-3
     (λ c κs. search needs)
-    returns-4
+    returns-3
     multiples-requires
     sums-requires
     (λ c κs. search needs)
-    returns-5)
+    (λ c κs. search needs)
+    (λ c κs. search needs)
+    returns-4)

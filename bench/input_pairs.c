@@ -1,0 +1,69 @@
+/* Two operands, and how often one is spread or trimmed by the other. */
+#include "compare.h"
+
+/* How far the folds of a row may go: from edge to edge of the map. */
+enum { ACROSS = 2 * LIMIT };
+
+static uint32_t few_or_any(void) { return any() % 4 ? any() % 4 : any() % 8 ? any() % 70000 : any(); }
+
+/* Bounds of any kind, one time in eight both near to rows. */
+static uint32_t random_two(int32_t p[8], int32_t f[8]) {
+    int rows = any() % 8 == 0;
+    random_bounds(p, 20, rows);
+    random_bounds(f, any() % 2 ? 8 : 3, rows);
+    return few_or_any();
+}
+
+/* The bounds of a row of so many steps upward from (0, 0), to the right or to the left. */
+static void row(int32_t c[8], int32_t steps, int rising) {
+    for (int k = 0; k < 8; k++) {
+        int64_t end = reach(k, rising ? steps : -steps, steps);
+        c[k] = end > 0 ? (int32_t)end : 0;
+    }
+}
+
+static void move(int32_t c[8], int32_t x, int32_t y) {
+    for (int k = 0; k < 8; k++)
+        c[k] += (int32_t)reach(k, x, y);
+}
+
+/* A few steps, or one time in eight any number of them up to the most. */
+static int32_t steps(int32_t few, int32_t most) { return from(0, any() % 8 && few < most ? few : most); }
+
+/* How far to move what reaches from -down to up along a line: so that it ends at an edge of the map or next to it, or anywhere. */
+static int32_t shift(int32_t down, int32_t up) {
+    switch (any() % 4) {
+    case 0: return LIMIT - up + from(-2, 2);
+    case 1: return down - LIMIT + from(-2, 2);
+    case 2: return from(-LIMIT, LIMIT);
+    default: return from(-20, 20);
+    }
+}
+
+/* One bound that is slack, or lets more cells in. */
+static void loosen(int32_t c[8]) {
+    int k = (int)(any() % 8);
+    c[k] = any() % 2 ? INT32_MAX : c[k] + from(1, 3);
+}
+
+/* Opposed rows, few of them a cell alone, whose sums often end at an edge of the map; or in the plot's stead the smallest octagon that
+ * holds the sums, which the element trims to a row. */
+static uint32_t random_opposed(int32_t p[8], int32_t f[8]) {
+    uint32_t n = any() % 4 ? few_or_any() : (uint32_t)from(1, ACROSS);
+    int32_t folds = n >= 1 && n <= ACROSS && any() % 2 ? (int32_t)n : 1, near = LIMIT / folds < 4 ? LIMIT / folds : 4, sums[8];
+    int rising = (int)(any() % 2);
+    row(p, steps(16, ACROSS), rising);
+    row(f, steps(6, ACROSS / folds), !rising);
+    move(f, from(-near, near), from(-near, near));
+    for (int k = 0; k < 8; k++)
+        sums[k] = p[k] + folds * f[k];
+    int32_t x = shift(sums[6], sums[2]), y = shift(sums[0], sums[4]);
+    for (int k = 0, whole = any() % 3 == 0; k < 8; k++)
+        p[k] = whole ? sums[k] : p[k];
+    move(p, x, y);
+    if (any() % 4 == 0)
+        loosen(any() % 2 ? p : f);
+    return n;
+}
+
+uint32_t random_pair(int32_t p[8], int32_t f[8]) { return any() % 8 ? random_two(p, f) : random_opposed(p, f); }
