@@ -26,8 +26,8 @@ use octagon::Octagon;
 use octagon::normalise;
 use rows::are_opposed;
 
-// What a call that spreads answers: an octagon that has exactly the cells of the set definition; the smallest octagon that holds them, for
-// a dilation of opposed diagonal rows, or what comes of it; or the number of the refusal.
+// What a call that spreads answers: an octagon that has exactly the cells of the set definition; the smallest octagon that holds them,
+// where opposed diagonal rows were dilated, and of a closing just them; or the number of the refusal.
 pub enum Spread {
     Exact(Octagon),
     Filled(Octagon),
