@@ -5,7 +5,7 @@ use lib.IntN.{ℤ, negℤ, _+ℤ_, _-ℤ_}
 use Rattle.integers.proofs.Parts.{sum-parts, diff-parts, neg-up, neg-dn}
 use Rattle.integers.proofs.Linear.{#, _⊕_, neg, same}
 
--- the form d adds up
+-- the left side d adds up
 abbrev pub Additive : (ℤ → ℤ → ℤ) → Type 0
 Additive d = (x y u v : ℤ) → d (x +ℤ u) (y +ℤ v) ≡ d x y +ℤ d u v
 
@@ -25,7 +25,7 @@ difference-adds a b c d =
     same (# a ⊕ # b ⊕ neg (# c) ⊕ neg (# d)) (omega (arith, diff-parts (a +ℤ b) (c +ℤ d), sum-parts a b, sum-parts c d))
     (omega (arith, sum-parts (a -ℤ c) (b -ℤ d), diff-parts a c, diff-parts b d))
 
--- ---- the eight forms, in the bounds' order
+-- ---- the eight left sides, in the bounds' order
 
 pub adds0 : Additive (λ x y. negℤ y)
 adds0 x y u v = neg-adds y v

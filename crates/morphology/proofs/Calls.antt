@@ -1,5 +1,5 @@
 -- The answers of calls, as their definitions compute them from answers that the code took apart. Assumes nothing.
-use mathlib.Core.Path.{_≡_, sym, _∙_, ap, ap₂}
+use mathlib.Core.Path.{_≡_, refl, sym, _∙_, ap, ap₂}
 use mathlib.Core.Bool.{Bool, false}
 use Prim.Native.Nat.{ℕ, _<_, _≤_}
 use borrow.Author.Tests.{le-ltb, lt-ltb}
@@ -21,9 +21,10 @@ is-accepted q e = sym q ∙ ap outcome e
 pub is-refused : {r : Answer} {o : Outcome Octagon} {k : ℕ} → outcome r ≡ o → r ≡ Refused k → o ≡ refused k
 is-refused q e = sym q ∙ ap outcome e
 
--- a refusal with a mark is the refusal
-pub refused-alike : {r : Answer} {x y : Outcome Marked} {k : ℕ} → x ≡ marked false (outcome r) → r ≡ Refused k → y ≡ refused k → x ≡ y
-refused-alike d e q = d ∙ ap (λ a. marked false (outcome a)) e ∙ sym q
+-- steps may be grouped either way
+regrouped : {S : Type 0} (o : Outcome Octagon) (g : Octagon → Outcome S) (h : S → Outcome Marked) → then (then o g) h ≡ then o (λ a. then (g a) h)
+regrouped (accepted a) g h = refl
+regrouped (refused k) g h = refl
 
 -- two steps: a refusal of the first is handed back, with a mark or without; where it is accepted, the answer x is that of the second
 pub step-refused : {r : Answer} {o : Outcome Octagon} {k : ℕ} (g : Octagon → Outcome Octagon) → outcome r ≡ o → r ≡ Refused k → outcome r ≡ then o g
@@ -31,11 +32,20 @@ step-refused g q e = ap outcome e ∙ sym (rw (is-refused q e))
 
 pub step-refused-marked : {r : Answer} {o : Outcome Octagon} {x : Outcome Marked} {k : ℕ} (g : Octagon → Outcome Marked) →
     outcome r ≡ o → r ≡ Refused k → x ≡ marked false (outcome r) → x ≡ then o g
-step-refused-marked g q e d = refused-alike d e (ap (λ n. then n g) (is-refused q e))
+step-refused-marked g q e d = d ∙ ap (λ a. marked false (outcome a)) e ∙ sym (ap (λ n. then n g) (is-refused q e))
 
 pub step-accepted : {R : Type 0} {r : Answer} {o : Outcome Octagon} {x : Outcome R} {a : Octagon} (g : Octagon → Outcome R) →
     outcome r ≡ o → r ≡ Holds a → x ≡ g a → x ≡ then o g
 step-accepted g q e d = d ∙ sym (rw (is-accepted q e))
+
+-- three steps, of which the first is refused, or accepted
+pub first-refused : {r : Answer} {o : Outcome Octagon} {x : Outcome Marked} {k : ℕ} {S : Type 0} (g : Octagon → Outcome S) (h : S → Outcome Marked) →
+    outcome r ≡ o → r ≡ Refused k → x ≡ marked false (outcome r) → x ≡ then (then o g) h
+first-refused {o = o} g h q e d = step-refused-marked (λ a. then (g a) h) q e d ∙ sym (regrouped o g h)
+
+pub first-accepted : {r : Answer} {o : Outcome Octagon} {x : Outcome Marked} {a : Octagon} {S : Type 0} (g : Octagon → Outcome S) (h : S → Outcome Marked) →
+    outcome r ≡ o → r ≡ Holds a → x ≡ then (g a) h → x ≡ then (then o g) h
+first-accepted {o = o} g h q e d = step-accepted (λ a. then (g a) h) q e d ∙ sym (regrouped o g h)
 
 -- two operands that are both accepted: the answer x is that of the call on their normal forms
 pub both-accepted : {R : Type 0} {p f a b : Octagon} {x : Outcome R} (g : Octagon → Octagon → Outcome R) → Accepted p f a b → x ≡ g a b → x ≡ with-both p f g

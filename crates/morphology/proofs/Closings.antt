@@ -14,12 +14,12 @@ use Rattle.morphology.specs.Sets.{Dilated, Closed, OpposedRows}
 use Rattle.morphology.specs.Marks.{Marked, exact, filled}
 use Rattle.morphology.specs.Operations.{sums, nothing-left, dilation, erosion}
 use Rattle.morphology.specs.Folds.{marked-erosion, closed}
-use Rattle.morphology.specs.Cases.{says-exact, says-filled, Spreads, Closes, Closing}
+use Rattle.morphology.specs.Cases.{says-exact, says-filled, Spreads, StaysExact, Closing}
 use Rattle.morphology.proofs.Sums.{sums-hold}
 use Rattle.morphology.proofs.Differences.{sums-back, differences-exact}
 use Rattle.morphology.proofs.SetLaws.{same-refl, same-sym, same-trans, same-some, dilated-same, eroded-mono, eroded-same, adjunction}
 use Rattle.morphology.proofs.Checks.{later, skip, after-operands, skip-operands, onward, onward-operands, check-one, operands-one, exactly}
-use Rattle.morphology.proofs.Handed.{own-form, represents-same, says-not-refused, closes-one, closes-known}
+use Rattle.morphology.proofs.Handed.{own-form, represents-same, says-not-refused, stays-exact-one, stays-exact-known}
 use Rattle.morphology.proofs.Operands.{form-of}
 use Rattle.morphology.proofs.Dilations.{dilating, dilation-accepted, Sum, accepted-sum}
 
@@ -69,7 +69,7 @@ module _ (p f : Octagon) where
 
   -- and takes the dilation's mark over
   eroded : {o : Outcome Marked} → dilation p f ≡ o → Spreads (OpposedRows (In p) (In f)) (Dilated (In p) (In f)) o →
-      Closes (OpposedRows (In p) (In f)) (Closed (In p) (In f)) (then o (λ d. marked-erosion d f))
+      StaysExact (OpposedRows (In p) (In f)) (Closed (In p) (In f)) (then o (λ d. marked-erosion d f))
   eroded q (says-exact {a = d} n _) = let g = again (exact d) q in rw (g .1 .0) (says-exact n (g .1 .1))
   eroded q (says-filled {a = d} t _) = let g = again (filled d) q in rw (g .1 .0) (says-filled t (g .1 .1))
 
@@ -82,11 +82,11 @@ module _ (p f : Octagon) where
 
   -- and each answer is given exactly where its case holds
   pub closing-exactly : (o : Outcome Marked) → (closed p f ≡ o) ↔ Closing p f o
-  closing-exactly = exactly (closed p f) (operands-one (check-one closes-one)) closing
+  closing-exactly = exactly (closed p f) (operands-one (check-one stays-exact-one)) closing
 
   -- accepted, whatever the mark: the cells of definition 2.15; normalised, and on the map. Filled exactly where opposed rows were dilated
   pub closing-accepted : (m : Marked) → closed p f ≡ accepted m → Represents (m .octagon) (Closed (In p) (In f)) × ((m .is-filled ≡ true) ↔ OpposedRows (In p) (In f))
-  closing-accepted m q = closes-known m (later (after-operands (closing-exactly (accepted m) .0 q)))
+  closing-accepted m q = stays-exact-known m (later (after-operands (closing-exactly (accepted m) .0 q)))
 
   -- a closing never says that nothing is left
   pub closing-never-nothing : ¬ (closed p f ≡ refused nothing-left)

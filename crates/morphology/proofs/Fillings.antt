@@ -4,13 +4,12 @@ use mathlib.Core.Path.{_≡_, refl, _∙_, ap₂}
 use mathlib.Core.Logic.{_↔_}
 use Prim.Native.Nat.{ℕ, zero, suc}
 use native.Mathlib.Omega.{arith}
-use lib.IntN.{ℤ, negℤ, _+ℤ_}
-use Rattle.integers.proofs.Parts.{sum-parts, diff-parts, neg-up, neg-dn}
-use Rattle.integers.proofs.Linear.{#, _⊕_, neg, _≈_}
+use lib.IntN.{ℤ, _+ℤ_}
+use Rattle.integers.proofs.Parts.{sum-parts}
 use Rattle.octagon.specs.declared.Octagon.{Octagon}
 use Rattle.octagon.specs.Cells.{Cells, _≐_, Some, In, Smallest}
 use Rattle.octagon.specs.OneCell.{one-cell}
-use Rattle.octagon.proofs.Within.{Within, within, cell-in}
+use Rattle.octagon.proofs.Within.{Within, left-sides, within, cell-in}
 use Rattle.octagon.proofs.Smallest.{smallest-when}
 use Rattle.morphology.specs.Sets.{Dilated, Eroded, DilatedTimes}
 use Rattle.morphology.specs.Operations.{sums, differences}
@@ -22,7 +21,7 @@ use Rattle.morphology.proofs.Multiples.{sums-zero, sums-suc}
 
 -- ---- sums
 
--- a cell of A with the value k of a form and a cell of B with the value l sum to a cell with the value k + l
+-- a cell of A that has the value k on a left side and a cell of B that has the value l sum to a cell with the value k + l
 reach-sum : {A B : Cells} {d : ℤ → ℤ → ℤ} {k l : ℤ} → Additive d → Some (λ x y. A x y × (d x y ≡ k)) → Some (λ x y. B x y × (d x y ≡ l)) →
     Some (λ x y. Dilated A B x y × (d x y ≡ k +ℤ l))
 reach-sum add r s = record {
@@ -59,43 +58,15 @@ multiples-smallest (suc n) {a} {b} s t = renamed (sums-suc n a b) (sums-smallest
 
 -- ---- positions that fit
 
--- the bounds of the one cell (x, y)
-record At (o : Octagon) (x y : ℤ) : Type 0 where
-  a0 : # (o .c0) ≈ neg (# y)
-  a1 : # (o .c1) ≈ # x ⊕ neg (# y)
-  a2 : # (o .c2) ≈ # x
-  a3 : # (o .c3) ≈ # x ⊕ # y
-  a4 : # (o .c4) ≈ # y
-  a5 : # (o .c5) ≈ neg (# x) ⊕ # y
-  a6 : # (o .c6) ≈ neg (# x)
-  a7 : # (o .c7) ≈ neg (# x) ⊕ neg (# y)
-
-at : (x y : ℤ) → At (one-cell x y) x y
-at x y =
-    omega (
-      arith,
-      neg-up x,
-      neg-dn x,
-      neg-up y,
-      neg-dn y,
-      diff-parts x y,
-      sum-parts x y,
-      sum-parts (negℤ x) y,
-      diff-parts (negℤ x) y,
-    )
-
--- bounds less those of (x, y) hold (v, w) exactly where the bounds hold (x + v, y + w)
-back : (p o d : Octagon) (x y v w : ℤ) → Summed d o p → At o x y → Within p (x +ℤ v) (y +ℤ w) → Within d v w
-back p o d x y v w h k i = omega (arith, sum-parts x v, sum-parts y w)
-
-forth : (p o d : Octagon) (x y v w : ℤ) → Summed d o p → At o x y → Within d v w → Within p (x +ℤ v) (y +ℤ w)
-forth p o d x y v w h k i = omega (arith, sum-parts x v, sum-parts y w)
-
+-- bounds less those of the cell (x, y) hold (v, w) exactly where the bounds hold (x + v, y + w)
 moved : (p : Octagon) (x y v w : ℤ) → In p (x +ℤ v) (y +ℤ w) ↔ In (differences p (one-cell x y)) v w
-moved p x y v w =
-    let o = one-cell x y in
-    let d = differences p o in
-    (λ i. cell-in (back p o d x y v w (differing p o) (at x y) (within i)), λ i. cell-in (forth p o d x y v w (differing p o) (at x y) (within i)))
+moved p x y v w = (λ i. cell-in (to (differing p (one-cell x y)) (within i)), λ i. cell-in (from (differing p (one-cell x y)) (within i)))
+  where
+    to : {d : Octagon} → Summed d (one-cell x y) p → Within p (x +ℤ v) (y +ℤ w) → Within d v w
+    to {d} h i = omega (arith, left-sides x y, sum-parts x v, sum-parts y w)
+
+    from : {d : Octagon} → Summed d (one-cell x y) p → Within d v w → Within p (x +ℤ v) (y +ℤ w)
+    from {d} h i = omega (arith, left-sides x y, sum-parts x v, sum-parts y w)
 
 -- a smallest octagon fits into an octagon where the set that it was made for does, and nowhere else
 pub eroded-by-smallest : (p : Octagon) {d : Octagon} {D : Cells} → Smallest d D → Eroded (In p) (In d) ≐ Eroded (In p) D

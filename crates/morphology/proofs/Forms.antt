@@ -1,48 +1,17 @@
 -- Opening and closing from the normal forms of their operands: what the first step hands back is its own normal form, so the second needs no
 -- other. Assumes nothing.
 use mathlib.Core.Path.{_≡_, refl, sym, _∙_, ap}
-use Prim.Native.Nat.{ℕ}
 use Rattle.octagon.specs.declared.Octagon.{Octagon}
 use Rattle.octagon.specs.Outcome.{Outcome, accepted, refused, then}
 use Rattle.octagon.specs.NormalForm.{normalised}
 use Rattle.octagon.proofs.Outcomes.{accepted-not-refused}
 use Rattle.octagon.proofs.NormalForms.{normalised-again}
 use Rattle.morphology.specs.Marks.{Marked, marked}
-use Rattle.morphology.specs.Operations.{with-both, differences, fitting, dilation-of-forms, dilation, erosion-of-forms, erosion, opened}
+use Rattle.morphology.specs.Operations.{differences, fitting, dilation-of-forms, dilation, erosion-of-forms, erosion, opened}
 use Rattle.morphology.specs.Folds.{marked-erosion, closed}
 use Rattle.morphology.proofs.Handed.{own-form}
 use Rattle.morphology.proofs.Operands.{Accepted}
 use Rattle.morphology.proofs.Dilations.{dilation-accepted}
-
--- ---- a refused operand
-
--- is the answer of a call on both
-first-refused : {R : Type 0} {k : ℕ} (p f : Octagon) (g : Octagon → Octagon → Outcome R) → normalised p ≡ refused k → with-both p f g ≡ refused k
-first-refused p f g q = rw q
-
-second-refused : {R : Type 0} {a : Octagon} {k : ℕ} (p f : Octagon) (g : Octagon → Octagon → Outcome R) → normalised p ≡ accepted a → normalised f ≡ refused k →
-    with-both p f g ≡ refused k
-second-refused p f g q e = rw (q, e)
-
-module _ {k : ℕ} (p f : Octagon) where
-  -- and so that of an opening and of a closing
-  pub opened-first : normalised p ≡ refused k → opened p f ≡ refused k
-  unfolding opened erosion
-  opened-first q = ap (λ o. then o (λ e. dilation e f)) (first-refused p f erosion-of-forms q)
-
-  pub opened-second : {a : Octagon} → normalised p ≡ accepted a → normalised f ≡ refused k → opened p f ≡ refused k
-  unfolding opened erosion
-  opened-second q e = ap (λ o. then o (λ e. dilation e f)) (second-refused p f erosion-of-forms q e)
-
-  pub closed-first : normalised p ≡ refused k → closed p f ≡ refused k
-  unfolding closed dilation
-  closed-first q = ap (λ o. then o (λ d. marked-erosion d f)) (first-refused p f dilation-of-forms q)
-
-  pub closed-second : {a : Octagon} → normalised p ≡ accepted a → normalised f ≡ refused k → closed p f ≡ refused k
-  unfolding closed dilation
-  closed-second q e = ap (λ o. then o (λ d. marked-erosion d f)) (second-refused p f dilation-of-forms q e)
-
--- ---- two accepted operands
 
 -- an octagon that fits is a normal form
 fitting-accepted : (o : Outcome Octagon) (e : Octagon) → fitting o ≡ accepted e → o ≡ accepted e

@@ -12,7 +12,7 @@ use Rattle.octagon.proofs.Outcomes.{accepted-same, accepted-not-refused}
 use Rattle.octagon.proofs.Smallest.{smallest-unique, smallest-same, smallest-normalised, smallest-on-map, smallest-again, smallest-own, placed-within, placed-leaving, within-or-leaving}
 use Rattle.octagon.proofs.Unique.{unique}
 use Rattle.morphology.specs.Marks.{Marked, exact, filled, marked}
-use Rattle.morphology.specs.Cases.{Check, fails, passes, Stands, stands, Covers, Says, says-exact, says-filled, NoOctagon, Spreads, Closes, Spreading}
+use Rattle.morphology.specs.Cases.{Check, fails, passes, Stands, stands, Covers, Says, says-exact, says-filled, NoOctagon, Spreads, StaysExact, Spreading}
 use Rattle.morphology.proofs.SetLaws.{same-refl, same-sym, same-trans}
 use Rattle.morphology.proofs.Checks.{One}
 
@@ -91,8 +91,8 @@ says-not-refused c = go c refl
 pub spreads-one : {T : Type 0} {A : Cells} → One (Spreads T A)
 spreads-one = says-one represents-one covers-one
 
-pub closes-one : {T : Type 0} {A : Cells} → One (Closes T A)
-closes-one = says-one represents-one represents-one
+pub stays-exact-one : {T : Type 0} {A : Cells} → One (StaysExact T A)
+stays-exact-one = says-one represents-one represents-one
 
 -- the same with other words for the test, and for the set
 pub spreads-same : {T U : Type 0} {A B : Cells} {o : Outcome Marked} → T ↔ U → A ≐ B → Spreads T A o → Spreads U B o
@@ -123,11 +123,11 @@ spreading {T} {A} m c = go c refl
     go (says-filled t c) q =
         rw (← accepted-same q) (record { covers = c; exact-stands = λ e. absurd (true-is-not-false e); filled-where = (λ _. t, λ _. refl) })
 
-pub closes-known : {T : Type 0} {A : Cells} (m : Marked) → Closes T A (accepted m) →
+pub stays-exact-known : {T : Type 0} {A : Cells} (m : Marked) → StaysExact T A (accepted m) →
     Represents (m .octagon) A × ((m .is-filled ≡ true) ↔ T)
-closes-known {T} {A} m c = go c refl
+stays-exact-known {T} {A} m c = go c refl
   where
-    go : {o : Outcome Marked} → Closes T A o → o ≡ accepted m → Represents (m .octagon) A × ((m .is-filled ≡ true) ↔ T)
+    go : {o : Outcome Marked} → StaysExact T A o → o ≡ accepted m → Represents (m .octagon) A × ((m .is-filled ≡ true) ↔ T)
     go (says-exact n r) q = rw (← accepted-same q) (r, (λ e. absurd (true-is-not-false (sym e)), λ t. absurd (n t)))
     go (says-filled t r) q = rw (← accepted-same q) (r, (λ _. t, λ _. refl))
 

@@ -44,8 +44,8 @@ abbrev pub Spreads : Type 0 → Cells → Answers Marked
 Spreads T A = Says T (λ a. Represents a A) (λ a. Covers a A)
 
 -- "a closing stays exact": its octagon stands for the set, whatever its mark
-abbrev pub Closes : Type 0 → Cells → Answers Marked
-Closes T A = Says T (λ a. Represents a A) (λ a. Represents a A)
+abbrev pub StaysExact : Type 0 → Cells → Answers Marked
+StaysExact T A = Says T (λ a. Represents a A) (λ a. Represents a A)
 
 -- what is known of a marked octagon that a spread hands back: it covers A, where it is exact it stands for A, and it is filled exactly where
 -- T holds
@@ -87,7 +87,7 @@ abbrev pub Closing : Octagon → Octagon → Answers Marked
 Closing p f =
     OnOperands p f
     (Check (LeavesMap (Dilated (In p) (In f))) off-map
-    (Closes (OpposedRows (In p) (In f)) (Closed (In p) (In f))))
+    (StaysExact (OpposedRows (In p) (In f)) (Closed (In p) (In f))))
 
 -- "6 when n is above 65,535", before all else
 abbrev pub OnFolds : {R : Type 0} → ℕ → Answers R → Answers R

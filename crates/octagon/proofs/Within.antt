@@ -1,7 +1,7 @@
 -- A cell within bounds, and bounds whose sides are nought or more, as linear facts that `omega` reads.
 -- `within` and `cell-in` lead to and from the sets of specs/Cells.antt. Assumes nothing.
 use native.Mathlib.Omega.{arith}
-use lib.IntN.{ℤ, negℤ}
+use lib.IntN.{ℤ, negℤ, _+ℤ_, _-ℤ_}
 use Rattle.integers.proofs.Parts.{up, dn, sum-parts, diff-parts, neg-up, neg-dn, le-parts}
 use Rattle.integers.proofs.Linear.{#, _⊕_, neg, lit, _≼_, _≈_, le}
 use Rattle.octagon.specs.declared.Octagon.{Octagon}
@@ -18,11 +18,19 @@ pub record Within (c : Octagon) (x y : ℤ) : Type 0 where
   pub i6 : neg (# x) ≼ # (c .c6)
   pub i7 : neg (# x) ⊕ neg (# y) ≼ # (c .c7)
 
-pub within : {c : Octagon} {x y : ℤ} → In c x y → Within c x y
-within {c} {x} {y} i =
+-- the left sides of the eight inequalities that are not a coordinate, as sums and differences of the coordinates
+pub record LeftSides (x y : ℤ) : Type 0 where
+  pub f0 : # (negℤ y) ≈ neg (# y)
+  pub f1 : # (x -ℤ y) ≈ # x ⊕ neg (# y)
+  pub f3 : # (x +ℤ y) ≈ # x ⊕ # y
+  pub f5 : # (negℤ x +ℤ y) ≈ neg (# x) ⊕ # y
+  pub f6 : # (negℤ x) ≈ neg (# x)
+  pub f7 : # (negℤ x -ℤ y) ≈ neg (# x) ⊕ neg (# y)
+
+pub left-sides : (x y : ℤ) → LeftSides x y
+left-sides x y =
     omega (
       arith,
-      le-parts,
       neg-up x,
       neg-dn x,
       neg-up y,
@@ -33,19 +41,21 @@ within {c} {x} {y} i =
       diff-parts (negℤ x) y,
     )
 
+pub within : {c : Octagon} {x y : ℤ} → In c x y → Within c x y
+within {c} {x} {y} i = omega (arith, le-parts, left-sides x y)
+
 pub cell-in : {c : Octagon} {x y : ℤ} → Within c x y → In c x y
 cell-in {c} {x} {y} i =
-    let nx : # (negℤ x) ≈ neg (# x) = omega (arith, neg-up x, neg-dn x) in
-    let ny : # (negℤ y) ≈ neg (# y) = omega (arith, neg-up y, neg-dn y) in
+    let f = left-sides x y in
     record {
-      in0 = le (neg (# y)) (# (c .c0)) ny (omega arith) (i .i0);
-      in1 = le (# x ⊕ neg (# y)) (# (c .c1)) (omega (arith, diff-parts x y)) (omega arith) (i .i1);
+      in0 = le (neg (# y)) (# (c .c0)) (f .f0) (omega arith) (i .i0);
+      in1 = le (# x ⊕ neg (# y)) (# (c .c1)) (f .f1) (omega arith) (i .i1);
       in2 = le (# x) (# (c .c2)) (omega arith) (omega arith) (i .i2);
-      in3 = le (# x ⊕ # y) (# (c .c3)) (omega (arith, sum-parts x y)) (omega arith) (i .i3);
+      in3 = le (# x ⊕ # y) (# (c .c3)) (f .f3) (omega arith) (i .i3);
       in4 = le (# y) (# (c .c4)) (omega arith) (omega arith) (i .i4);
-      in5 = le (neg (# x) ⊕ # y) (# (c .c5)) (omega (arith, sum-parts (negℤ x) y)) (omega arith) (i .i5);
-      in6 = le (neg (# x)) (# (c .c6)) nx (omega arith) (i .i6);
-      in7 = le (neg (# x) ⊕ neg (# y)) (# (c .c7)) (omega (arith, diff-parts (negℤ x) y)) (omega arith) (i .i7);
+      in5 = le (neg (# x) ⊕ # y) (# (c .c5)) (f .f5) (omega arith) (i .i5);
+      in6 = le (neg (# x)) (# (c .c6)) (f .f6) (omega arith) (i .i6);
+      in7 = le (neg (# x) ⊕ neg (# y)) (# (c .c7)) (f .f7) (omega arith) (i .i7);
     }
 
 -- every side has a length of nought or more

@@ -5,10 +5,11 @@ use mathlib.Core.Bool.{true, false}
 use borrow.Author.Needs.{needs}
 use Rattle.octagon.specs.NormalForm.{normalised}
 use Rattle.morphology.specs.Marks.{spread-outcome, marked}
-use Rattle.morphology.specs.Operations.{fitting}
+use Rattle.morphology.specs.Operations.{fitting, dilation}
+use Rattle.morphology.specs.Folds.{closed}
 use Rattle.morphology.proofs.Operands.{Accepted}
-use Rattle.morphology.proofs.Forms.{closed-first, closed-second, dilated-form, closed-forms}
-use Rattle.morphology.proofs.Calls.{is-accepted, is-refused, refused-alike, step-marked, step-marked-refused}
+use Rattle.morphology.proofs.Forms.{dilated-form, closed-forms}
+use Rattle.morphology.proofs.Calls.{is-accepted, first-refused, first-accepted, step-marked, step-marked-refused}
 use Rattle.morphology.proofs.Widths.{sums-held, differences-held}
 use Rattle.morphology.proofs.closing.Statement.{statement}
 use Rattle.morphology.proofs.closing.Tie as tie
@@ -29,19 +30,12 @@ at-second c = c .before .before
 
 -- a refused operand
 returns : tie.Need-returns
-returns c =
-    let told = c .before in
-    let e = told .enum-told .given .1 in
-    refused-alike (c .new .ensures) e (closed-first _ _ (is-refused (told .before .before .normalise .ensures) e))
+unfolding closed dilation
+returns c = search first-refused
 
 returns-2 : tie.Need-returns-2
-returns-2 c =
-    let told = c .before in
-    let e = told .enum-told2 .given .1 in
-    let again = told .before .before in
-    let case = again .before .before in
-    refused-alike (c .new2 .ensures) e
-    (closed-second _ _ (is-accepted (case .before .before .normalise .ensures) (case .first .given .1)) (is-refused (again .normalise2 .ensures) e))
+unfolding closed dilation
+returns-2 c = search (first-accepted, first-refused)
 
 -- two accepted operands, whose dilation is exact, filled or refused
 dilate-forms-requires : tie.Need-dilate-forms-requires

@@ -3,10 +3,10 @@ use mathlib.Core.Path.{_≡_, sym, _∙_, ap}
 use borrow.Author.Needs.{needs}
 use Rattle.octagon.specs.NormalForm.{normalised}
 use Rattle.octagon.specs.Answers.{outcome}
-use Rattle.morphology.specs.Operations.{fitting, dilation-of-forms, erosion-of-forms}
+use Rattle.morphology.specs.Operations.{fitting, dilation-of-forms, erosion-of-forms, erosion, opened}
 use Rattle.morphology.proofs.Operands.{Accepted}
-use Rattle.morphology.proofs.Forms.{opened-first, opened-second, eroded-form, opened-forms}
-use Rattle.morphology.proofs.Calls.{is-accepted, is-refused, refused-alike, step-refused-marked, step-accepted}
+use Rattle.morphology.proofs.Forms.{eroded-form, opened-forms}
+use Rattle.morphology.proofs.Calls.{is-accepted, first-refused, first-accepted, step-refused-marked, step-accepted}
 use Rattle.morphology.proofs.Widths.{sums-held, differences-held}
 use Rattle.morphology.proofs.opening.Statement.{statement}
 use Rattle.morphology.proofs.opening.Tie as tie
@@ -31,19 +31,12 @@ eroded c = c .fit .ensures ∙ ap (λ d. fitting (normalised d)) (c .before .dif
 
 -- a refused operand
 returns : tie.Need-returns
-returns c =
-    let told = c .before in
-    let e = told .enum-told .given .1 in
-    refused-alike (c .new .ensures) e (opened-first _ _ (is-refused (told .before .before .normalise .ensures) e))
+unfolding opened erosion
+returns c = search first-refused
 
 returns-2 : tie.Need-returns-2
-returns-2 c =
-    let told = c .before in
-    let e = told .enum-told2 .given .1 in
-    let again = told .before .before in
-    let case = again .before .before in
-    refused-alike (c .new2 .ensures) e
-    (opened-second _ _ (is-accepted (case .before .before .normalise .ensures) (case .first .given .1)) (is-refused (again .normalise2 .ensures) e))
+unfolding opened erosion
+returns-2 c = search (first-accepted, first-refused)
 
 -- two accepted operands, of which the second fits nowhere into the first, or somewhere
 differences-requires : tie.Need-differences-requires
