@@ -5,7 +5,7 @@
 #include <string.h>
 #include <time.h>
 
-enum { INPUTS = 512, TURNS = 4000, POINTS = 1000 };
+enum { INPUTS = 512, TURNS = 4000, POINTS = 1000, MANY = 65536 };
 
 /* A tree: its centre cell, and its radius. */
 typedef struct {
@@ -13,7 +13,7 @@ typedef struct {
     uint32_t radius;
 } tree;
 
-static int32_t plots[INPUTS][8], elements[INPUTS][8];
+static int32_t plots[INPUTS][8], elements[INPUTS][8], many[MANY][8];
 static double tape[2 * POINTS];
 static tree trees[INPUTS];
 volatile uint32_t sink;
@@ -65,6 +65,19 @@ static void fill_trees(void) {
     }
 }
 
+/* More plots than a processor's branch prediction can learn. Both calls have to split each alike. */
+static void fill_many(void) {
+    for (int i = 0; i < MANY; i++) {
+        int32_t a[2], b[2];
+        uint32_t k[13], l[13];
+        bounds(many[i], 2000);
+        if (kx_decompose(many[i], 8, a, 2, k, 13) || plain_decompose(many[i], 8, b, 2, l, 13) || memcmp(a, b, sizeof a) || memcmp(k, l, sizeof k)) {
+            printf("plot %d: the proved split and plain C's differ\n", i);
+            exit(1);
+        }
+    }
+}
+
 typedef uint32_t of_one(const int32_t *, size_t, int32_t *, size_t);
 typedef uint32_t trimmer(const int32_t *, size_t, const int32_t *, size_t, int32_t *, size_t);
 typedef uint32_t spreader(const int32_t *, size_t, const int32_t *, size_t, int32_t *, size_t, uint32_t *);
@@ -112,15 +125,20 @@ static double time_spread(spreader *f) {
     return (now() - at) / INPUTS;
 }
 
-static double time_split(splitter *f) {
+/* Set in line, so that each loop is compiled with its own inputs. */
+__attribute__((always_inline)) static inline double time_splits(splitter *f, int32_t (*of)[8], int inputs) {
     int32_t start[2] = {0};
     uint32_t counts[13] = {0}, sum = 0;
     double at = now();
-    for (int i = 0; i < INPUTS; i++)
-        sum += f(plots[i], 8, start, 2, counts, 13) + counts[i % 13];
+    for (int i = 0; i < inputs; i++)
+        sum += f(of[i], 8, start, 2, counts, 13) + counts[i % 13];
     sink = sum;
-    return (now() - at) / INPUTS;
+    return (now() - at) / inputs;
 }
+
+static double time_split(splitter *f) { return time_splits(f, plots, INPUTS); }
+
+static double time_split_many(splitter *f) { return time_splits(f, many, MANY); }
 
 static double time_enclose(encloser *f) {
     int32_t out[8] = {0};
@@ -146,6 +164,7 @@ int main(void) {
     }
     fill_tape();
     fill_trees();
+    fill_many();
     printf("%-12s %12s %12s %8s\n", "ns per call", "proved", "plain C", "ratio");
     COMPARE("normalise", TURNS, time_one, kx_normalise, plain_normalise);
     COMPARE("count", TURNS, time_count, kx_count, plain_count);
@@ -154,6 +173,7 @@ int main(void) {
     COMPARE("opening", TURNS, time_spread, kx_opening, plain_opening);
     COMPARE("closing", TURNS, time_spread, kx_closing, plain_closing);
     COMPARE("split", TURNS, time_split, kx_decompose, plain_decompose);
+    COMPARE("split, many", TURNS * INPUTS / MANY, time_split_many, kx_decompose, plain_decompose);
     COMPARE("enclose", TURNS, time_enclose, kx_enclose, plain_enclose);
     COMPARE("clearance", TURNS, time_clearance, kx_clearance, plain_clearance);
     benchmark_sheets();

@@ -56,6 +56,10 @@ int main(int argc, char **argv) {
     printf("inputs %llu, calls compared %llu, accepted %llu, no difference\n", (unsigned long long)(rounds + sheets + tapes + trees), (unsigned long long)compared, (unsigned long long)accepted);
     printf("by sets of cells: octagons %llu, pairs %llu, outlines %llu, splits %llu, trees %llu\n", (unsigned long long)octagons_by_cells, (unsigned long long)pairs_by_cells, (unsigned long long)outlines_by_cells, (unsigned long long)splits_by_cells, (unsigned long long)trees_by_cells);
     printf("filled: dilate %llu, opening %llu, closing %llu, dilate_n %llu; by sets of cells %llu; refused as off the map %llu\n", (unsigned long long)filled[DILATE], (unsigned long long)filled[OPENING], (unsigned long long)filled[CLOSING], (unsigned long long)filled[DILATE_N], (unsigned long long)filled_by_cells, (unsigned long long)filled_off_map);
+    printf("rests that fit one pair alone");
+    for (int i = 0; i < 8; i++)
+        printf(" %llu", (unsigned long long)fit_alone[i]);
+    printf(", two %llu, all %llu\n", (unsigned long long)fit_two, (unsigned long long)fit_all);
     printf("listings %llu, sheets of 24 written anew %llu\n", (unsigned long long)listings, (unsigned long long)widened);
     printf("answers");
     for (int k = 0; k < 256; k++)

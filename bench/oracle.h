@@ -101,6 +101,8 @@ uint64_t count_by_rows(const int64_t c[8]);
 
 /* The counts of the pieces that make an outline with these sides; how many choices of counts fit. */
 int split_by_rule(const uint32_t sides[8], uint32_t k[PIECES]);
+/* How many rests that it met fit one pair alone, by the pair, how many two, and how many all eight. */
+extern uint64_t fit_alone[8], fit_two, fit_all;
 /* The start cell spread by all counted pieces, as sets. */
 void rebuilt(const int32_t start[2], const uint32_t k[PIECES], cells *out);
 

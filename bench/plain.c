@@ -141,20 +141,38 @@ static uint32_t smaller(uint32_t a, uint32_t b) { return a < b ? a : b; }
 /* What a has above b, or nought. */
 static uint32_t surplus(uint32_t a, uint32_t b) { return a < b ? 0 : a - b; }
 
+/* Whether a of one kind and b of another make a rest: the sides that both have are a + b and a + 2 b, and it has no others. */
+static int fits(uint64_t a, uint64_t b, uint32_t sum, uint32_t twice, uint32_t others) { return (a + b == sum) & (a + 2 * b == twice) & !others; }
+
+/* The cases (i) to (viii) of source document 000. */
+static void count_triangles(uint32_t k[13], const uint32_t r[8]) {
+    for (int m = 4; m < 12; m++)
+        k[m] = 0;
+    if (fits(r[0], r[1], r[3], r[6], r[2] | r[4] | r[5] | r[7]))
+        k[5] = r[0], k[10] = r[1];
+    if (fits(r[2], r[1], r[7], r[4], r[0] | r[3] | r[5] | r[6]))
+        k[7] = r[2], k[9] = r[1];
+    if (fits(r[2], r[3], r[5], r[0], r[1] | r[4] | r[6] | r[7]))
+        k[4] = r[2], k[8] = r[3];
+    if (fits(r[4], r[3], r[1], r[6], r[0] | r[2] | r[5] | r[7]))
+        k[6] = r[4], k[10] = r[3];
+    if (fits(r[4], r[5], r[7], r[2], r[0] | r[1] | r[3] | r[6]))
+        k[7] = r[4], k[11] = r[5];
+    if (fits(r[6], r[5], r[3], r[0], r[1] | r[2] | r[4] | r[7]))
+        k[5] = r[6], k[8] = r[5];
+    if (fits(r[6], r[7], r[1], r[4], r[0] | r[2] | r[3] | r[5]))
+        k[6] = r[6], k[9] = r[7];
+    if (fits(r[0], r[7], r[5], r[2], r[1] | r[3] | r[4] | r[6]))
+        k[4] = r[0], k[11] = r[7];
+}
+
 static void split(const uint32_t n[8], uint32_t k[13]) {
     uint32_t r[8];
     for (int m = 0; m < 8; m++)
         r[m] = surplus(n[m], n[(m + 4) % 8]);
     for (int m = 0; m < 4; m++)
         k[m] = smaller(n[m], n[m + 4]);
-    k[4] = smaller(r[0], r[2]);
-    k[5] = smaller(r[0], r[6]);
-    k[6] = smaller(r[4], r[6]);
-    k[7] = smaller(r[2], r[4]);
-    k[8] = smaller(r[3], r[5]);
-    k[9] = smaller(r[1], r[7]);
-    k[10] = smaller(r[1], r[3]);
-    k[11] = smaller(r[5], r[7]);
+    count_triangles(k, r);
     k[12] = 0;
     uint64_t others = (uint64_t)k[0] + k[2] + k[4] + k[5] + k[6] + k[7] + k[8] + k[9] + k[10] + k[11];
     if (k[1] > 0 && k[3] > 0 && others == 0) {

@@ -12,6 +12,8 @@ static const uint32_t PIECE[PIECES][8] = {
 /* The two kinds that may stand together, by their numbers. */
 static const int PAIR[8][2] = {{6, 11}, {8, 10}, {5, 9}, {7, 11}, {8, 12}, {6, 9}, {7, 10}, {5, 12}};
 
+uint64_t fit_alone[8], fit_two, fit_all;
+
 /* How often kind p goes into a rest, by a side that it shows and kind q does not. */
 static uint32_t times(const uint32_t rest[8], int p, int q) {
     int m = 0;
@@ -22,7 +24,7 @@ static uint32_t times(const uint32_t rest[8], int p, int q) {
 
 int split_by_rule(const uint32_t sides[8], uint32_t k[PIECES]) {
     uint32_t rest[8], first[PIECES] = {0}, others = 0;
-    int choices = 0;
+    int choices = 0, fitting = 0, last = 0;
     memcpy(rest, sides, sizeof rest);
     /* "First k1 to k4 are the smaller of .." */
     for (int m = 0; m < 4; m++) {
@@ -39,12 +41,17 @@ int split_by_rule(const uint32_t sides[8], uint32_t k[PIECES]) {
             fits &= (uint64_t)a * PIECE[p - 1][m] + (uint64_t)b * PIECE[q - 1][m] == rest[m];
         if (!fits)
             continue;
+        fitting++;
+        last = i;
         memcpy(found, first, sizeof found);
         found[p - 1] = a;
         found[q - 1] = b;
         choices += choices == 0 || memcmp(found, k, sizeof found) != 0;
         memcpy(k, found, sizeof found);
     }
+    fit_alone[last] += fitting == 1;
+    fit_two += fitting == 2;
+    fit_all += fitting == 8;
     /* "Last, when k2 and k4 are at least 1 and all other counts are 0, .." */
     for (int p = 1; p <= 12; p++)
         others += p == 2 || p == 4 ? 0 : k[p - 1];

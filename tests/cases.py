@@ -7,10 +7,13 @@ opposites in a row. So the rows that have a cell are found from the widest row b
 over them, and the cells are counted row by row. None of this uses the library's normal form or its cell count. A spread has the
 cells of the smallest octagon that holds the sums, and is filled where that holds others.
 
-The constants are read off the sentences of documents 01 and 02.
+The splits are those of cells.py: a rest is tried with every pair of kinds and every small count, and the pieces, spread one after the
+other, have to make the plot. The constants are read off the sentences of documents 01 and 02.
 """
 
 import re
+
+from cells import inside, outline, pairs_that_make, rows_and_rest, split, tightest
 
 LIMIT = 16000
 MIN, MAX = -2**31, 2**31 - 1
@@ -189,6 +192,24 @@ def opposed_rows():
     closed_beside("K2 closed by K4", K2, K4)
 
 
+NUMERALS = "i ii iii iv v vi vii viii".split()
+# a plot for each of the eight cases, then one of three K9 beside its rows, and one of rows alone
+PLOTS = (
+    "6 14 7 15 2 8 23 5", "1 7 13 2 14 3 8 11", "13 1 11 10 5 6 9 7", "8 13 3 6 14 2 19 1", "5 7 15 9 6 13 2 16",
+    "19 4 1 13 7 6 9 3", "2 15 9 1 13 7 14 4", "16 4 14 2 9 12 5 3", "12 2 1 7 6 5 1 4", "7 1 6 3 7 1 6 3",
+)
+
+
+def splits():
+    for shown in PLOTS:
+        n = [int(length) for length in shown.split()]
+        plot = inside((-4, -5), n)
+        assert outline(plot) == ([-4, -5], n)
+        start, counts = split(tightest(plot))
+        fit = " ".join("(%s)" % NUMERALS[place] for place, _ in pairs_that_make(rows_and_rest(n)[1]))
+        print("split of sides %s, by %s: start %d %d, counts %s: agree" % (shown, fit, *start, " ".join(map(str, counts))))
+
+
 def main():
     plot = {(x, y) for x in range(-2, 3) for y in range(5) if abs(x) + abs(y - 2) <= 2}
     frame = {(0, 0), (1, 0), (0, 1), (1, 1)}
@@ -213,6 +234,7 @@ def main():
     assert (corner[0] / 4, corner[1] / 4) == (0.75, 0.25)
     spread_beside("the block spread by K13", spread)
     print("its corner 2, in quarter metres east and north: %d %d: agree" % corner)
+    splits()
     # too large to enumerate, or bounds too far apart
     for c in (
         (MIN,) * 8,

@@ -1,4 +1,5 @@
-"""Document 01's octagons, outlines and splits as sets of cells, for exports.py, examples.py, tapes.py and clearances.py.
+"""Document 01's octagons, outlines and splits as sets of cells, for cases.py, exports.py, examples.py,
+clearances.py and the scripts of the tapes.
 
 It shares nothing with the library. A set is a Python set of cells (x, y). Bounds hold the cells that pass the eight inequalities; the
 bounds of an answer are the greatest values of their left sides. Sums, positions that fit, walks, opposed rows and the split are taken
@@ -170,25 +171,29 @@ PIECES = [[row.count(str(k)) for k in range(8)] for row in "04 15 26 37 025 036 
 PAIRS = (6, 11), (8, 10), (5, 9), (7, 11), (8, 12), (6, 9), (7, 10), (5, 12)
 
 
-def choices(rest):
-    """The counts of K5 to K12 that make the rest, by at most two kinds that are paired."""
-    found = set()
-    for first, second in PAIRS:
+def pairs_that_make(rest):
+    """The pairs that make a rest, by trial: the place of each in PAIRS, and the counts of K5 to K12."""
+    for place, (first, second) in enumerate(PAIRS):
         for a in range(max(rest) + 1):
             for b in range(max(rest) + 1):
                 made = [a * n + b * m for n, m in zip(PIECES[first - 1], PIECES[second - 1])]
                 if made == rest:
-                    found.add(tuple({first: a, second: b}.get(k, 0) for k in range(5, 13)))
-    return found
+                    yield place, tuple({first: a, second: b}.get(k, 0) for k in range(5, 13))
+
+
+def rows_and_rest(n):
+    """The counts of K1 to K4, and the sides that these rows leave."""
+    rows = [min(n[k], n[k + 4]) for k in range(4)]
+    return rows, [n[k] - rows[k % 4] for k in range(8)]
 
 
 def split(bounds):
     """The start and the counts; the pieces so counted, spread one after the other, make the plot."""
     cells = some(bounds)
     start, n = outline(cells)
-    lines = [min(n[k], n[k + 4]) for k in range(4)]
-    (triangles,) = choices([n[k] - lines[k % 4] for k in range(8)])
-    counts = lines + list(triangles) + [0]
+    rows, rest = rows_and_rest(n)
+    (triangles,) = {counts for _, counts in pairs_that_make(rest)}
+    counts = rows + list(triangles) + [0]
     if counts[1] > 0 and counts[3] > 0 and sum(counts) == counts[1] + counts[3]:
         counts = [0, counts[1] - 1, 0, counts[3] - 1] + [0] * 8 + [1]
     made = {tuple(start)}

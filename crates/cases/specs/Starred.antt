@@ -19,7 +19,8 @@ use Rattle.cell_count.specs.Area.{triangle, rectangle, cuts, area, cell-count}
 use Rattle.morphology.specs.Marks.{Marked, marked, unmarked}
 use Rattle.morphology.specs.Operations.{sums, differences, is-rising, is-falling, are-opposed, dilation, erosion, opened}
 use Rattle.decomposition.specs.declared.Split.{Split}
-use Rattle.decomposition.specs.Splitting.{rest, triangles-of, with-rows, first-counts, is-crossed, with-k13, counts, split-of as split, decomposition}
+use Rattle.decomposition.specs.Pairs.{have-sides, assign-pair, triangles-of}
+use Rattle.decomposition.specs.Splitting.{rest, with-rows, first-counts, is-crossed, with-k13, counts, split-of as split, decomposition}
 use Rattle.cases.specs.Shorthand.{Case, is, bounds, outlined-by, block, three-by-three, K2, K4, K13, cell, split-by, spread, trim, open-by}
 
 -- an answer of one of the calls
@@ -72,5 +73,5 @@ starred =
 
 -- each gives what the documents say
 pub starred-cases : map (λ c. c .given) starred ≡ map (λ c. c .expected) starred
-unfolding starred normalised normal-form tight-odd tight-even even-bound odd-bound minℤ halfℤ has-cell placed is-on-map sides traced closes drawn bounds-at vertex outlined drawn-sides inside cell-count area rectangle cuts triangle dilation erosion opened sums differences are-opposed is-rising is-falling decomposition split rest triangles-of with-rows first-counts is-crossed with-k13 counts
+unfolding starred normalised normal-form tight-odd tight-even even-bound odd-bound minℤ halfℤ has-cell placed is-on-map sides traced closes drawn bounds-at vertex outlined drawn-sides inside cell-count area rectangle cuts triangle dilation erosion opened sums differences are-opposed is-rising is-falling decomposition split rest triangles-of assign-pair have-sides with-rows first-counts is-crossed with-k13 counts
 starred-cases = refl

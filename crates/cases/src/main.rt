@@ -1,8 +1,9 @@
 // The squared-paper cases that are run, the README's example, and `normalise` at extreme bounds, each beside a set of cells that is
-// enumerated here; and the library's constants. The starred cases are proved in specs/Starred.antt.
+// enumerated here; splits that were worked out by hand; and the library's constants. The starred cases are proved in specs/Starred.antt.
 //
 // What is expected comes from the eight inequalities, the steps and the set definitions alone. A line has the answer, with its mark where
-// the call has one, then what the cells say, then whether the two agree. An octagon too large to enumerate has the answer alone.
+// the call has one, then what the cells say, then whether the two agree. An octagon too large to enumerate has the answer alone; a split has whether
+// it is what was worked out (splits.rt).
 // tests/cases.py works the lines out on its own.
 mod beside;
 mod numbers;
@@ -10,6 +11,7 @@ mod operands;
 mod print;
 mod sets;
 mod signed;
+mod splits;
 mod squared_paper;
 
 use beside::NOTHING_LEFT;
@@ -116,6 +118,7 @@ fn extremes_beside_others() {
 fn main() {
     worked_example();
     squared_paper::tell();
+    splits::tell();
     extremes();
     extremes_beside_others();
     numbers::tell();

@@ -8,9 +8,10 @@ use Rattle.outline.specs.Outlining.{outlined}
 use Rattle.decomposition.specs.declared.Counts.{Counts}
 use Rattle.decomposition.specs.declared.Split.{Split}
 use Rattle.decomposition.specs.Rule.{Chosen, Crossed, exchanged, Last, exchange, keep, Rule}
+use Rattle.decomposition.specs.Pairs.{made}
 use Rattle.decomposition.specs.Splitting.{decomposition}
 use Rattle.decomposition.specs.Meaning.{DiagonalRectangle, K13Exactly}
-use Rattle.decomposition.proofs.Sides.{SameSides, made, makes-same}
+use Rattle.decomposition.proofs.Sides.{SameSides, makes-same}
 use Rattle.decomposition.proofs.Decompositions.{accepted-means}
 
 -- ---- the last step

@@ -9,8 +9,9 @@ use Rattle.integers.proofs.Tests.{cases, both-true, and-true, true-is-not-false
 use Rattle.outline.specs.declared.Outline.{Outline}
 use Rattle.decomposition.specs.declared.Counts.{Counts}
 use Rattle.decomposition.specs.Rule.{others, Crossed, exchanged, Last, exchange, keep}
+use Rattle.decomposition.specs.Pairs.{made}
 use Rattle.decomposition.specs.Splitting.{is-crossed, with-k13}
-use Rattle.decomposition.proofs.Sides.{SameSides, made}
+use Rattle.decomposition.proofs.Sides.{SameSides}
 
 pub test-crossed : (k : Counts) → is-crossed k ≡ true → Crossed k
 unfolding is-crossed

@@ -2,6 +2,8 @@
 pub mod LastStep
 pub mod Table
 pub mod Sides
+pub mod Pairs
+pub mod Found
 pub mod Rests
 pub mod Choice
 pub mod Order
@@ -10,4 +12,5 @@ pub mod Exact
 pub mod Rebuilding
 pub mod Decompositions
 pub mod Exchange
+pub mod ByCases
 pub mod Examples

@@ -19,8 +19,9 @@ use Rattle.decomposition.specs.declared.Start.{Start}
 use Rattle.decomposition.specs.declared.Counts.{Counts}
 use Rattle.decomposition.specs.Pieces.{outlines, piece-of, listed, Only, DilatedByEach, Rebuilt}
 use Rattle.decomposition.specs.Rule.{Crossed, recounted}
+use Rattle.decomposition.specs.Pairs.{made}
 use Rattle.decomposition.specs.Splitting.{first-counts, is-crossed, with-k13, counts, split-of}
-use Rattle.decomposition.proofs.Sides.{SameSides, made}
+use Rattle.decomposition.proofs.Sides.{SameSides}
 use Rattle.decomposition.proofs.Choice.{counts-made}
 use Rattle.decomposition.proofs.LastStep.{crossed-test}
 use Rattle.decomposition.proofs.Order.{put-last}

@@ -1,7 +1,7 @@
--- What a split means, in the words of document 01: the records that the theorems speak of. Assumes nothing.
+-- What a split means, in the words of documents 01 and 02: the records that the theorems speak of. Assumes nothing.
 use mathlib.Core.Path.{_≡_}
 use mathlib.Core.Logic.{_↔_}
-use Prim.Native.Nat.{_-_, min, _≤_}
+use Prim.Native.Nat.{ℕ, _+_, _-_, min, _≤_}
 use Rattle.octagon.specs.declared.Octagon.{Octagon}
 use Rattle.octagon.specs.Outcome.{accepted}
 use Rattle.octagon.specs.Cells.{_≐_, In}
@@ -10,7 +10,8 @@ use Rattle.outline.specs.Outlining.{outlined}
 use Rattle.decomposition.specs.declared.Counts.{Counts}
 use Rattle.decomposition.specs.declared.Split.{Split}
 use Rattle.decomposition.specs.Pieces.{Rebuilt}
-use Rattle.decomposition.specs.Rule.{Rule}
+use Rattle.decomposition.specs.Rule.{Pair, Rule}
+use Rattle.decomposition.specs.Pairs.{triangles-in, CaseFits, fit-triangles, FitsSome}
 
 -- s is the split of the bounds c
 pub record SplitOf (c : Octagon) (s : Split) : Type 0 where
@@ -24,6 +25,26 @@ pub record SplitOf (c : Octagon) (s : Split) : Type 0 where
   pub one-choice : (k : Counts) → Rule outline k → k ≡ s .counts
   -- "Spreading the start cell by all counted pieces, as sets, gives exactly the plot."
   pub rebuilds : Rebuilt s ≐ In c
+
+-- ---- the triangles, by the eight cases of source document 000
+
+-- r is what the rows leave of o: source document 000's A(4)
+pub record RestOf (o r : Outline) : Type 0 where
+  pub left0 : min (o .n0) (o .n4) + r .n0 ≡ o .n0
+  pub left1 : min (o .n1) (o .n5) + r .n1 ≡ o .n1
+  pub left2 : min (o .n2) (o .n6) + r .n2 ≡ o .n2
+  pub left3 : min (o .n3) (o .n7) + r .n3 ≡ o .n3
+  pub left4 : min (o .n0) (o .n4) + r .n4 ≡ o .n4
+  pub left5 : min (o .n1) (o .n5) + r .n5 ≡ o .n5
+  pub left6 : min (o .n2) (o .n6) + r .n6 ≡ o .n6
+  pub left7 : min (o .n3) (o .n7) + r .n7 ≡ o .n7
+
+-- "every plot's rest fits at least one case, and .. where several fit they give the same counts": those of k
+pub record ByCases (o : Outline) (k : Counts) : Type 0 where
+  pub the-rest : Outline
+  pub is-rest : RestOf o the-rest
+  pub some-fits : FitsSome the-rest
+  pub whichever-fits : {p q : ℕ} (c : Pair p q) (f : CaseFits c the-rest) → triangles-in k ≡ fit-triangles f
 
 -- ---- when there is a K13, by the sides of the outline alone
 

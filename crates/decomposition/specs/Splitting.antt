@@ -1,6 +1,6 @@
 -- The decomposition of an octagon: definitions that compute. proofs/Decompositions.antt says what they mean. Assumes nothing.
 use mathlib.Core.Bool.{Bool, cond, _&&_}
-use Prim.Native.Nat.{ℕ, _-_, min}
+use Prim.Native.Nat.{_-_, min}
 use lib.Dec.{ltb, eqb}
 use lib.IntN.{pos}
 use Rattle.octagon.specs.declared.Octagon.{Octagon}
@@ -11,10 +11,11 @@ use Rattle.decomposition.specs.declared.Counts.{Counts}
 use Rattle.decomposition.specs.declared.Split.{Split}
 use Rattle.decomposition.specs.declared.Decomposed.{Decomposed}
 use Rattle.decomposition.specs.declared.Decomposed.the-variants.{Split as Holds, Refused}
-use Rattle.decomposition.specs.declared.counting.Triangles.{Triangles}
+use Rattle.decomposition.specs.declared.pairing.Triangles.{Triangles}
 use Rattle.decomposition.specs.Rule.{others, exchanged}
+use Rattle.decomposition.specs.Pairs.{rows-and-triangles, triangles-of}
 
--- what the opposite sides leave of an outline
+-- what the opposite sides leave of an outline: source document 000's A(4)
 unfoldable pub rest : Outline → Outline
 rest o = record {
   i = pos 0;
@@ -27,37 +28,6 @@ rest o = record {
   n5 = o .n5 - o .n1;
   n6 = o .n6 - o .n2;
   n7 = o .n7 - o .n3;
-}
-
--- the triangles that make a rest: of each kind the smaller of two sides
-unfoldable pub triangles-of : Outline → Triangles
-triangles-of r = record {
-  k5 = min (r .n0) (r .n2);
-  k6 = min (r .n0) (r .n6);
-  k7 = min (r .n4) (r .n6);
-  k8 = min (r .n2) (r .n4);
-  k9 = min (r .n3) (r .n5);
-  k10 = min (r .n1) (r .n7);
-  k11 = min (r .n1) (r .n3);
-  k12 = min (r .n5) (r .n7);
-}
-
--- so many of K1 to K4, triangles, and no K13
-abbrev pub rows-and-triangles : ℕ → ℕ → ℕ → ℕ → Triangles → Counts
-rows-and-triangles k1 k2 k3 k4 t = record {
-  k1 = k1;
-  k2 = k2;
-  k3 = k3;
-  k4 = k4;
-  k5 = t .k5;
-  k6 = t .k6;
-  k7 = t .k7;
-  k8 = t .k8;
-  k9 = t .k9;
-  k10 = t .k10;
-  k11 = t .k11;
-  k12 = t .k12;
-  k13 = 0;
 }
 
 -- the rows of an outline, and triangles

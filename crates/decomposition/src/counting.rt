@@ -4,19 +4,9 @@ ghost use Prim.Native.Nat.{_+_, _-_, min};
 ghost use Rattle.decomposition.specs.Rule as rule;
 ghost use Rattle.decomposition.specs.Splitting as splitting;
 use crate::Counts;
+use crate::pairing::Triangles;
+use crate::pairing::count_triangles;
 use outline::Outline;
-
-// How many there are of the pieces K5 to K12.
-pub struct Triangles {
-    pub k5: u32,
-    pub k6: u32,
-    pub k7: u32,
-    pub k8: u32,
-    pub k9: u32,
-    pub k10: u32,
-    pub k11: u32,
-    pub k12: u32,
-}
 
 // The smaller of two numbers.
 fn smaller(a: u32, b: u32) -> u32
@@ -38,7 +28,7 @@ fn surplus(a: u32, b: u32) -> u32
     a - b
 }
 
-// What the opposite sides leave of an outline.
+// What the opposite sides leave of an outline: source document 000's A(4).
 fn rest(o: Outline) -> Outline
     ensures { λ r. ⌜ r ≡ splitting.rest o ⌝ }
 {
@@ -53,22 +43,6 @@ fn rest(o: Outline) -> Outline
         n5: surplus(o.n5, o.n1),
         n6: surplus(o.n6, o.n2),
         n7: surplus(o.n7, o.n3),
-    }
-}
-
-// The triangles that make a rest: of each kind the smaller of two sides.
-fn count_triangles(r: Outline) -> Triangles
-    ensures { λ t. ⌜ t ≡ splitting.triangles-of r ⌝ }
-{
-    Triangles {
-        k5: smaller(r.n0, r.n2),
-        k6: smaller(r.n0, r.n6),
-        k7: smaller(r.n4, r.n6),
-        k8: smaller(r.n2, r.n4),
-        k9: smaller(r.n3, r.n5),
-        k10: smaller(r.n1, r.n7),
-        k11: smaller(r.n1, r.n3),
-        k12: smaller(r.n5, r.n7),
     }
 }
 

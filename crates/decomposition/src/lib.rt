@@ -1,8 +1,8 @@
 // The decomposition of an octagon into thirteen pieces (document 01's split), in constant time.
 //
 // `outline::tables` has the table of the pieces, specs/Pieces.antt the set that counted pieces make, specs/Rule.antt document 01's rule
-// for the counts, specs/Splitting.antt what `decompose` answers, specs/Meaning.antt what that means, proofs/Decompositions.antt and
-// proofs/Exchange.antt the theorems.
+// for the counts, specs/Pairs.antt the eight cases of source document 000, specs/Splitting.antt what `decompose` answers,
+// specs/Meaning.antt what that means, proofs/Decompositions.antt, proofs/ByCases.antt and proofs/Exchange.antt the theorems.
 ghost use mathlib.Core.Path.{_≡_};
 ghost use Rattle.decomposition.specs.Pieces as pieces;
 ghost use Rattle.decomposition.specs.Splitting as splitting;
@@ -13,6 +13,7 @@ use outline::tables::piece_sides;
 use outline::to_outline;
 
 mod counting;
+mod pairing;
 
 // The cell from which the pieces spread: document 01's start.
 pub struct Start {

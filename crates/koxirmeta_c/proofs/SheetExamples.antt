@@ -14,7 +14,8 @@ use Rattle.outline.specs.Walk.{vertex}
 use Rattle.outline.specs.Tracing.{bounds-at, drawn, traced}
 use Rattle.outline.specs.Outlining.{outline-of, outlined}
 use Rattle.decomposition.specs.declared.Split.{Split}
-use Rattle.decomposition.specs.Splitting.{rest, triangles-of, with-rows, first-counts, is-crossed, with-k13, counts, split-of, decomposition}
+use Rattle.decomposition.specs.Pairs.{have-sides, assign-pair, triangles-of}
+use Rattle.decomposition.specs.Splitting.{rest, with-rows, first-counts, is-crossed, with-k13, counts, split-of, decomposition}
 use Rattle.records.specs.Numbers.{signed, twos}
 use Rattle.records.specs.Parts.{splice}
 use Rattle.sheet.specs.declared.Record.{Record}
@@ -55,7 +56,7 @@ splits = (refl, refl)
 pub splittings : (splitting plot-bounds plot-start thirteen ∷ splitting crossing-bounds plot-start thirteen
     ∷ splitting seven-bounds plot-start thirteen ∷ splitting plot-bounds one-number thirteen ∷ splitting plot-bounds plot-start plot-sides ∷ [])
     ≡ (accepted plot-split ∷ refused 1 ∷ refused 255 ∷ refused 255 ∷ refused 255 ∷ [])
-unfolding fitted octagon-in decomposition split-of rest triangles-of with-rows first-counts is-crossed with-k13 counts outlined normalised normal-form tight-odd tight-even even-bound odd-bound minℤ halfℤ has-cell placed is-on-map outline-of sides
+unfolding fitted octagon-in decomposition split-of rest triangles-of assign-pair have-sides with-rows first-counts is-crossed with-k13 counts outlined normalised normal-form tight-odd tight-even even-bound odd-bound minℤ halfℤ has-cell placed is-on-map outline-of sides
 splittings = refl
 
 -- ---- sheets
