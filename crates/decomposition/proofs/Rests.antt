@@ -102,6 +102,7 @@ two-kinds-alone k case-vi h = omega arith
 two-kinds-alone k case-vii h = omega arith
 two-kinds-alone k case-viii h = omega arith
 
+-- triangles of a pair of kinds, beside rows
 pub of-two-kinds : (k1 k2 k3 k4 : ℕ) {p q : ℕ} (c : Pair p q) (a b : ℕ) →
     let k = rows-and-triangles k1 k2 k3 k4 (of-kinds p a q b) in triangles k ≡ count-of-kind k p + count-of-kind k q
 of-two-kinds k1 k2 k3 k4 case-i a b = omega arith

@@ -11,7 +11,7 @@ use Rattle.decomposition.specs.Pairs.{have-sides}
 use Rattle.decomposition.proofs.pairing.have_sides.Statement.{statement}
 use Rattle.decomposition.proofs.pairing.have_sides.Tie as tie
 
--- with no row an even side is, and with no row and no K13 an odd one
+-- equations (5) of an even side with no row, and of an odd side with no row and no K13
 even : (a b c n : ℕ) → eqb (a + b + 2 * c) n ≡ eqb (0 + a + b + 2 * c) n
 even a b c n = ap (λ s. eqb s n) (omega arith)
 
