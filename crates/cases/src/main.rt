@@ -2,9 +2,8 @@
 // enumerated here; splits that were worked out by hand; and the library's constants. The starred cases are proved in specs/Starred.antt.
 //
 // What is expected comes from the eight inequalities, the steps and the set definitions alone. A line has the answer, with its mark where
-// the call has one, then what the cells say, then whether the two agree. An octagon too large to enumerate has the answer alone; a split has whether
-// it is what was worked out (splits.rt).
-// tests/cases.py works the lines out on its own.
+// the call has one, then what the cells say, then whether the two agree. An octagon too large to enumerate has the answer alone; a split
+// has the answer, and whether it is what was worked out (splits.rt). tests/cases.py works the lines out on its own.
 mod beside;
 mod numbers;
 mod operands;
