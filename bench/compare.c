@@ -1,10 +1,10 @@
 /* Compares every exported call with what oracle.h works out, on random and damaged inputs, and says how many it compared.
- * usage: compare [ROUNDS] [SHEETS] [TAPES] [TREES] */
+ * usage: compare [ROUNDS] [SHEETS] [TAPES] [TREES] [JOINS] */
 #include "compare.h"
 #include <stdio.h>
 #include <stdlib.h>
 
-uint64_t octagons_by_cells, pairs_by_cells, outlines_by_cells, splits_by_cells, trees_by_cells, listings, widened;
+uint64_t octagons_by_cells, pairs_by_cells, outlines_by_cells, splits_by_cells, trees_by_cells, listings, widened, joined, joined_once;
 uint64_t filled[SPREADS], filled_by_cells, filled_off_map;
 static uint64_t compared, accepted, seen[256];
 
@@ -34,6 +34,7 @@ void agree(const char *call, const int32_t *p, uint32_t got, uint32_t want, int 
 int main(int argc, char **argv) {
     uint64_t rounds = argc > 1 ? strtoull(argv[1], NULL, 10) : 4000000, sheets = argc > 2 ? strtoull(argv[2], NULL, 10) : 1000000;
     uint64_t tapes = argc > 3 ? strtoull(argv[3], NULL, 10) : 4000000, trees = argc > 4 ? strtoull(argv[4], NULL, 10) : 4000000;
+    uint64_t joins = argc > 5 ? strtoull(argv[5], NULL, 10) : 1000000;
     compare_constants();
     for (uint64_t i = 0; i < rounds; i++) {
         int32_t p[8], f[8];
@@ -53,7 +54,10 @@ int main(int argc, char **argv) {
     for (uint64_t i = 0; i < trees; i++)
         compare_tree();
     compare_radii();
-    printf("inputs %llu, calls compared %llu, accepted %llu, no difference\n", (unsigned long long)(rounds + sheets + tapes + trees), (unsigned long long)compared, (unsigned long long)accepted);
+    for (uint64_t i = 0; i < joins; i++)
+        compare_pair_of_sheets();
+    compare_full_joins();
+    printf("inputs %llu, calls compared %llu, accepted %llu, no difference\n", (unsigned long long)(rounds + sheets + tapes + trees + joins), (unsigned long long)compared, (unsigned long long)accepted);
     printf("by sets of cells: octagons %llu, pairs %llu, outlines %llu, splits %llu, trees %llu\n", (unsigned long long)octagons_by_cells, (unsigned long long)pairs_by_cells, (unsigned long long)outlines_by_cells, (unsigned long long)splits_by_cells, (unsigned long long)trees_by_cells);
     printf("filled: dilate %llu, opening %llu, closing %llu, dilate_n %llu; by sets of cells %llu; refused as off the map %llu\n", (unsigned long long)filled[DILATE], (unsigned long long)filled[OPENING], (unsigned long long)filled[CLOSING], (unsigned long long)filled[DILATE_N], (unsigned long long)filled_by_cells, (unsigned long long)filled_off_map);
     printf("rests that fit one pair alone");
@@ -61,6 +65,7 @@ int main(int argc, char **argv) {
         printf(" %llu", (unsigned long long)fit_alone[i]);
     printf(", two %llu, all %llu\n", (unsigned long long)fit_two, (unsigned long long)fit_all);
     printf("listings %llu, sheets of 24 written anew %llu\n", (unsigned long long)listings, (unsigned long long)widened);
+    printf("joins %llu, of which %llu kept a plot of both sheets once\n", (unsigned long long)joined, (unsigned long long)joined_once);
     printf("answers");
     for (int k = 0; k < 256; k++)
         if (seen[k])

@@ -32,9 +32,28 @@ void spoil_trailer(uint8_t *s, size_t len);
 /* Alters a few bytes of a sheet, most often of its trailer. */
 void spoil_bytes(uint8_t *s, size_t len);
 
+/* ---- joins (input_joins.c) */
+
+/* The most plots of a sheet that is dealt, and a length that its heading is below. */
+enum { DEALT = 14, DEALT_HEADING = 70 };
+/* Two sheets to be joined: the plots of each, the bytes of its records and of its heading; and how many plot numbers the two have. */
+typedef struct {
+    plot plots[2][DEALT];
+    uint32_t count[2], each[2], numbers;
+    size_t heading[2];
+} dealt;
+/* Some plots are in one sheet, some in both, and some in both under two numbers; at times one that is in both is altered in one. */
+void random_deal(dealt *d);
+/* Alters one field of a plot, or as few sides as an outline can differ in, and leaves it one that a sheet can hold. */
+void alter_plot(plot *p, int has_fee_row);
+/* Spoils one of the two sheets: a record, the trailer, a few bytes, or the length. */
+void spoil_dealt(uint8_t *s, const dealt *d, int of, size_t *len);
+
 /* ---- what was compared (compare.c) */
 
 extern uint64_t octagons_by_cells, pairs_by_cells, outlines_by_cells, splits_by_cells, trees_by_cells, listings, widened;
+/* The joins that were accepted, and those of them that kept a plot of both sheets once. */
+extern uint64_t joined, joined_once;
 /* The calls with a spread in them: how many answers of each are filled, how many of these were worked out by cells too, and how many
  * spreads of opposed rows leave the map. */
 enum { DILATE, OPENING, CLOSING, DILATE_N, SPREADS };
@@ -57,7 +76,8 @@ void check(const char *call, const int32_t *p, const int32_t *f, uint32_t got, c
 /* ---- sheets (compare_sheets.c) */
 
 enum { ROOM = SHEET + 64, PAST = 64 };
-/* The buffer of every call on sheets: its first bytes are lent, at most ROOM of them, and PAST bytes past those are compared too. */
+/* The buffer of every call on sheets, the third of a join: its first bytes are lent, at most ROOM of them, and PAST bytes past those
+ * are compared too. */
 extern uint8_t sheet[ROOM + PAST];
 /* The check, the fetch and the read of a record, and the listing, on some calls or always. */
 void compare_reads(size_t room, size_t len, int always);
@@ -65,8 +85,14 @@ void compare_start(size_t room, size_t heading, size_t *len);
 /* The insert of a plot; the new length where it is accepted. */
 uint32_t compare_insert(const plot *p, size_t room, size_t *len);
 
+/* Plot i of a full sheet (compare_full_sheets.c). */
+plot plot_of(uint32_t i);
+/* The join of two sheets, each with PAST bytes past its buffer, in that of the calls on sheets; the new length where it is accepted
+ * (compare_joins.c). */
+uint32_t compare_join(const half *first, const half *second, size_t room, size_t *len);
+
 /* ---- the parts (compare_octagons.c, compare_pairs.c, compare_lengths.c, compare_random_sheets.c, compare_full_sheets.c,
- * compare_tapes.c, compare_trees.c) */
+ * compare_tapes.c, compare_trees.c, compare_joins.c, compare_full_joins.c) */
 
 void compare_one(const int32_t c[8], uint64_t round);
 void compare_two(const int32_t p[8], const int32_t f[8], uint32_t n);
@@ -86,5 +112,9 @@ void compare_long_tapes(void);
 void compare_tree(void);
 /* Trees of every radius, at and next to each edge of the map. */
 void compare_radii(void);
+/* A random pair of sheets, joined in buffers of several lengths. */
+void compare_pair_of_sheets(void);
+/* The joins that fill a sheet, and those next to them. */
+void compare_full_joins(void);
 
 #endif

@@ -32,7 +32,7 @@ static const filling FILLINGS[] = {
 };
 
 /* Plot i: its number is even. */
-static plot plot_of(uint32_t i) {
+plot plot_of(uint32_t i) {
     plot p = {2 + 2 * i, {(int32_t)i - 1300, 7}, {i % 7, i % 3, i % 5, 0, i % 7, i % 3, i % 5, 0}, (uint16_t)(i * 26)};
     return p;
 }

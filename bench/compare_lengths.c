@@ -49,8 +49,9 @@ void compare_constants(void) {
     const int wanted[] = {LIMIT, FOLDS, RADIUS, SHEET, RECORD, 26, BASE_RECORD, TRAILER, 8, 2, 8, PIECES, 2, 13 * 21, 13 * 21 * (MOST_PLOTS + 2), 0, 1};
     agree("the constants", NULL, 0, 0, !memcmp(named, wanted, sizeof named));
     const int refusals[] = {KX_NO_CELL, KX_OFF_MAP, KX_NOT_CLOSED, KX_NOTHING_LEFT, KX_TOO_MANY_FOLDS, KX_NO_VERTEX, KX_BAD_LENGTH,
-        KX_BAD_TRAILER, KX_BAD_DISTANCE, KX_BAD_NUMBER, KX_NO_ROOM, KX_NO_RECORD, KX_NOT_FINITE, KX_NO_POINT, KX_HALF_POINT, KX_TOO_WIDE};
-    const uint32_t numbers[] = {1, 2, 3, 5, 6, 7, 8, 9, 10, 11, 12, 13, 14, 15, 16, 17};
+        KX_BAD_TRAILER, KX_BAD_DISTANCE, KX_BAD_NUMBER, KX_NO_ROOM, KX_NO_RECORD, KX_NOT_FINITE, KX_NO_POINT, KX_HALF_POINT, KX_TOO_WIDE,
+        KX_TWO_RECORDS};
+    const uint32_t numbers[] = {1, 2, 3, 5, 6, 7, 8, 9, 10, 11, 12, 13, 14, 15, 16, 17, 18};
     for (int k = 0; k < (int)(sizeof numbers / sizeof *numbers); k++)
         agree("the numbers of the refusals", NULL, (uint32_t)refusals[k], numbers[k], 1);
     agree("the map limit", NULL, kx_to_octagon(edge, KX_START, none, KX_SIDES, out, KX_BOUNDS), 0, 1);

@@ -1,11 +1,14 @@
 /* What documents 01 and 02 say of each call, worked out without the library's formulas: by sets of cells on a window of the grid
  * (cells.c), by walking outlines (walks.c), by searching the rows and columns of any eight bounds (search.c), by the rule of the
- * pieces (splits.c), by bytes (sheets.c), by printf (listings.c), from the bits of a number (tapes.c) and by the squares of distances
- * (trees.c). */
+ * pieces (splits.c), by bytes (sheets.c), by a sorted list of plots (joins.c), by printf (listings.c), from the bits of a number
+ * (tapes.c) and by the squares of distances (trees.c). */
 #ifndef ORACLE_H
 #define ORACLE_H
 #include <stddef.h>
 #include <stdint.h>
+
+/* Document 01's steps. */
+extern const int STEP[8][2];
 
 /* The limits and lengths of documents 01 and 02: a record ends with a fee row, a base record has none. */
 enum { LIMIT = 16000, FOLDS = 65535, RADIUS = 255, SHEET = 65536, RECORD = 26, BASE_RECORD = 24, TRAILER = 16, PIECES = 13 };
@@ -38,6 +41,12 @@ typedef struct {
     size_t first;
     uint32_t count, each;
 } frame;
+
+/* A sheet that is only read: its buffer, the bytes of that, and the bytes of the sheet. */
+typedef struct {
+    const uint8_t *bytes;
+    size_t room, len;
+} half;
 
 /* How far the cell (x, y) reaches along bound k. */
 int64_t reach(int k, int64_t x, int64_t y);
@@ -124,6 +133,8 @@ uint32_t sheet_read(const uint8_t *s, size_t room, size_t len, uint32_t k, plot 
 size_t put_sheet(uint8_t *s, size_t heading, uint32_t each, const plot *p, uint32_t count);
 uint32_t sheet_after_start(uint8_t *s, size_t room, size_t heading, size_t *len);
 uint32_t sheet_after_insert(uint8_t *s, size_t room, size_t len, const plot *p, size_t *grown);
+/* Joins two sheets in a buffer of `room` bytes, and tells the new length and how many plots are in both. */
+uint32_t sheet_after_join(const half *first, const half *second, uint8_t *joined, size_t room, size_t *len, uint32_t *in_both);
 /* The listing of a sheet, and its length. */
 size_t listing_of(const uint8_t *s, size_t room, size_t len, char *text);
 

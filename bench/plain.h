@@ -5,7 +5,7 @@
 #include <stdint.h>
 
 enum { LIMIT = 16000, RADIUS_LIMIT = 255, SHEET_LIMIT = 65536, RECORD = 26, BASE_RECORD = 24, TRAILER = 16 };
-enum { NO_CELL = 1, OFF_MAP, NOT_CLOSED, NOTHING_LEFT = 5, BAD_LENGTH = 8, BAD_TRAILER, BAD_DISTANCE, BAD_NUMBER, NO_ROOM, NOT_FINITE = 14, NO_POINT, HALF_POINT, TOO_WIDE, WRONG_LENGTH = 255 };
+enum { NO_CELL = 1, OFF_MAP, NOT_CLOSED, NOTHING_LEFT = 5, BAD_LENGTH = 8, BAD_TRAILER, BAD_DISTANCE, BAD_NUMBER, NO_ROOM, NOT_FINITE = 14, NO_POINT, HALF_POINT, TOO_WIDE, TWO_RECORDS, WRONG_LENGTH = 255 };
 enum { EXACT, FILLED };
 
 uint32_t plain_normalise(const int32_t *bounds, size_t bounds_len, int32_t *out, size_t out_len);
@@ -18,6 +18,8 @@ uint32_t plain_decompose(const int32_t *bounds, size_t bounds_len, int32_t *star
 uint32_t plain_sheet_check(const uint8_t *sheet, size_t room, size_t len, uint32_t *count);
 uint32_t plain_sheet_insert(uint8_t *sheet, size_t room, size_t len, uint32_t number, const int32_t *start, size_t start_len, const uint32_t *sides, size_t sides_len,
                             uint16_t fee_row, size_t *grown);
+uint32_t plain_sheet_join(const uint8_t *first, size_t first_room, size_t first_len, const uint8_t *second, size_t second_room, size_t second_len, uint8_t *joined,
+                          size_t joined_room, size_t *len);
 uint32_t plain_enclose(const double *tape, size_t tape_len, int32_t *out, size_t out_len);
 uint32_t plain_clearance(int32_t x, int32_t y, uint32_t radius, int32_t *out, size_t out_len);
 uint32_t plain_list(const uint8_t *sheet, size_t room, size_t len, uint8_t *text, size_t *written);

@@ -2,6 +2,7 @@
 #ifndef PLAIN_BYTES_H
 #define PLAIN_BYTES_H
 #include "plain.h"
+#include <string.h>
 
 static inline uint32_t u16_at(const uint8_t *s) { return (uint32_t)s[0] | (uint32_t)s[1] << 8; }
 
@@ -19,6 +20,14 @@ static inline void put_u32(uint8_t *s, uint32_t v) {
 
 /* The length of the records in a sheet that was checked. */
 static inline size_t record_length(const uint8_t *sheet, size_t len) { return u16_at(sheet + len - TRAILER + 8); }
+
+static inline void put_trailer(uint8_t *t, uint32_t count) {
+    put_u32(t, RECORD * count);
+    put_u32(t + 4, count);
+    put_u16(t + 8, RECORD);
+    put_u16(t + 10, 0);
+    memcpy(t + 12, "GRND", 4);
+}
 
 /* The refusal of an outline: it does not close, or a corner leaves the map. */
 static inline uint32_t trace(int64_t i, int64_t j, const uint32_t n[8]) {

@@ -41,14 +41,6 @@ static void put_record(uint8_t *r, uint32_t number, const int32_t start[2], cons
     put_u16(r + BASE_RECORD, fee_row);
 }
 
-static void put_trailer(uint8_t *t, uint32_t count) {
-    put_u32(t, RECORD * count);
-    put_u32(t + 4, count);
-    put_u16(t + 8, RECORD);
-    put_u16(t + 10, 0);
-    memcpy(t + 12, "GRND", 4);
-}
-
 uint32_t plain_sheet_insert(uint8_t *sheet, size_t room, size_t len, uint32_t number, const int32_t *start, size_t start_len, const uint32_t *sides, size_t sides_len,
                             uint16_t fee_row, size_t *grown) {
     if (start_len != 2 || sides_len != 8)

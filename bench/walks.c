@@ -2,7 +2,7 @@
 #include "oracle.h"
 #include <string.h>
 
-static const int STEP[8][2] = {{1, 0}, {1, 1}, {0, 1}, {-1, 1}, {-1, 0}, {-1, -1}, {0, -1}, {1, -1}};
+const int STEP[8][2] = {{1, 0}, {1, 1}, {0, 1}, {-1, 1}, {-1, 0}, {-1, -1}, {0, -1}, {1, -1}};
 
 /* Corner k + 1 from corner k, in place. */
 static void move(int64_t at[2], const uint32_t sides[8], int k) {

@@ -199,6 +199,7 @@ int main(void) {
     trees();
     sheets();
     base_sheets();
+    joins();
     limits();
     return 0;
 }

@@ -20,6 +20,7 @@ void trees(void);
 /* Sheets, and the constants of koxirmeta.h (example_sheets.c). */
 void sheets(void);
 void base_sheets(void);
+void joins(void);
 void limits(void);
 
 #endif

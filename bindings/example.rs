@@ -161,7 +161,7 @@ fn refusals() {
         let why = Refusal::from_number(number);
         let error: &dyn std::error::Error = &why;
         assert_eq!(why.number(), number);
-        assert_eq!(why.name() != "Unknown", (number <= 17 && number != 4) || number == 255);
+        assert_eq!(why.name() != "Unknown", (number <= 18 && number != 4) || number == 255);
         assert!(error.to_string().starts_with(&format!("refused {number}: ")));
     }
 }
@@ -175,6 +175,7 @@ fn main() {
     example_surveys::trees();
     example_sheets::sheets();
     example_sheets::base_sheets();
+    example_sheets::joins();
     example_sheets::limits();
     refusals();
 }

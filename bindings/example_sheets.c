@@ -1,4 +1,4 @@
-/* Sheets from C: plots with fee rows, a sheet of document 01's records, which have none, and what is answered at each limit. */
+/* Sheets from C: plots with fee rows, a sheet of document 01's records, which have none, a join, and the answers at each limit. */
 #include "example.h"
 #include <stdio.h>
 #include <string.h>
@@ -96,6 +96,64 @@ void base_sheets(void) {
     show_bytes(sheet, 100);
     listing(sheet, 100, len);
     show_record("record 1", kx_sheet_fetch, sheet, 100, len, 1);
+}
+
+/* The northern half of a churchyard, in records of KX_BASE_RECORD bytes: the plots 770 and 70001. */
+static const uint8_t NORTH[69] = {
+    'n', 'o', 'r', 't', 'h',
+    2, 3, 0, 0, 21, 0, 223, 255, 15, 0, 11, 0, 18, 0, 9, 0, 22, 0, 8, 0, 17, 0, 13, 0,
+    113, 17, 1, 0, 252, 255, 251, 255, 3, 0, 1, 0, 14, 0, 2, 0, 5, 0, 4, 0, 6, 0, 7, 0,
+    48, 0, 0, 0, 2, 0, 0, 0, 24, 0, 0, 0, 'G', 'R', 'N', 'D',
+};
+
+/* The southern half, in records of KX_RECORD bytes: the plots 41, 770 and 9054. Plot 770 has the northern outline and this fee row. */
+static size_t southern(uint8_t sheet[104], uint16_t fee_row) {
+    static const int32_t starts[3][2] = {{1290, -812}, {-700, 95}, {21, -33}};
+    static const uint32_t sides[3][8] = {{51, 28, 53, 37, 16, 45, 54, 19}, {31, 301, 40, 20, 74, 263, 73, 25}, {15, 11, 18, 9, 22, 8, 17, 13}};
+    size_t len = 0;
+    memset(sheet, 0, 104);
+    memcpy(sheet, "south half", 10);
+    kx_sheet_start(sheet, 104, 10, &len);
+    kx_sheet_insert(sheet, 104, len, 9054, starts[0], 2, sides[0], 8, 515, &len);
+    kx_sheet_insert(sheet, 104, len, 41, starts[1], 2, sides[1], 8, 40961, &len);
+    kx_sheet_insert(sheet, 104, len, 770, starts[2], 2, sides[2], 8, fee_row, &len);
+    return len;
+}
+
+/* Writes what the join of two sheets, each as long as its buffer, answers. */
+static void show_join(const char *what, const uint8_t *first, size_t first_len, const uint8_t *second, size_t second_len, uint8_t *joined, size_t room) {
+    size_t len = 0;
+    uint32_t answer = kx_sheet_join(first, first_len, first_len, second, second_len, second_len, joined, room, &len);
+    printf("join %s: %u", what, answer);
+    if (answer == KX_ACCEPTED)
+        printf(" length %zu\n", len);
+    else
+        printf("\n");
+}
+
+/* Both halves in one sheet, under the heading of either; then plot 770 with two fee rows, and sheets that are refused. */
+void joins(void) {
+    uint8_t south[104], joined[132];
+    size_t len = southern(south, 0);
+    memset(joined, 0xee, sizeof joined);
+    listing(NORTH, 69, 69);
+    listing(south, 104, len);
+    show_join("north and south, one byte short", NORTH, 69, south, len, joined, 124);
+    show_bytes(joined, 132);
+    show_join("north and south", NORTH, 69, south, len, joined, 125);
+    show_bytes(joined, 132);
+    listing(joined, 132, 125);
+    show_join("south and north", south, len, NORTH, 69, joined, 130);
+    show_bytes(joined, 132);
+    show_join("north and itself", NORTH, 69, NORTH, 69, joined, 73);
+    show_bytes(joined, 132);
+    southern(south, 258);
+    show_join("where 770 has two fee rows", NORTH, 69, south, len, joined, 132);
+    show_join("the same with no buffer", NORTH, 69, south, len, joined, 0);
+    south[len - 1] = 'E';
+    show_join("of wrong letters and a length of 15", south, len, NORTH, 15, joined, 132);
+    show_join("of a length of 15 and wrong letters", NORTH, 15, south, len, joined, 132);
+    show_bytes(joined, 132);
 }
 
 /* The answer to an empty sheet that names this record length. */

@@ -79,6 +79,7 @@ enum {
     KX_NO_POINT = 15,        /* the tape is empty */
     KX_HALF_POINT = 16,      /* the tape's length is odd: it ends in half a point */
     KX_TOO_WIDE = 17,        /* the tree's radius is above KX_RADIUS_LIMIT */
+    KX_TWO_RECORDS = 18,     /* one plot number stands for two differing records */
     KX_WRONG_LENGTH = 255    /* a slice of the wrong length: the caller's mistake, and no number of the documents */
 };
 
@@ -163,6 +164,17 @@ uint32_t kx_sheet_start(uint8_t *sheet, size_t sheet_len, size_t heading, size_t
  * 11, and 12 when the new length is above the buffer's or above KX_SHEET_LIMIT. Heading and bytes past the new length keep their
  * values. */
 uint32_t kx_sheet_insert(uint8_t *sheet, size_t sheet_len, size_t len, uint32_t number, const int32_t *start, size_t start_len, const uint32_t *sides, size_t sides_len, uint16_t fee_row, size_t *grown);
+
+/* Joins two sheets in a third buffer, and writes the new length to *len. The first sheet stands in the first first_len of the
+ * first_room bytes of its buffer, the second in the first second_len of second_room; each has either record length, and both are only
+ * read. What is written, from the start of the joined_room bytes of the third buffer, is the first sheet's heading, the records of
+ * both by rising number, of KX_RECORD bytes each, and the trailer; the new length is that of all these. A plot that both have with
+ * one outline and one fee row is kept once: a record of KX_BASE_RECORD bytes, whose fee row is 0, equals one of KX_FEE_RECORD that
+ * says 0. Refusals: the check's for the first sheet, then the check's for the second; 18 when one plot number stands for two
+ * differing records, whatever the third buffer's length is; 12 when the new length is above the third buffer's or above
+ * KX_SHEET_LIMIT. Bytes of the third buffer past the new length keep their values. The two sheets may overlap each other, or be one;
+ * the third buffer and *len overlap neither of them, nor each other. */
+uint32_t kx_sheet_join(const uint8_t *first, size_t first_room, size_t first_len, const uint8_t *second, size_t second_room, size_t second_len, uint8_t *joined, size_t joined_room, size_t *len);
 
 /* The listing of a sheet, to the start of text[KX_TEXT], and its length to *written; the bytes past it keep their values. Its last
  * column has the fee rows. It is always accepted: the listing of a sheet that kx_sheet_check refuses is the one line `refused`, a

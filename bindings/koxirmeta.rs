@@ -161,6 +161,8 @@ refusals! {
     HalfPoint = 16,
     /// The tree's radius is above [`RADIUS_LIMIT`].
     TooWide = 17,
+    /// One plot number stands for two differing records.
+    TwoRecords = 18,
     /// A slice of the wrong length: the caller's mistake, and no number of the documents.
     WrongLength = 255,
 }
@@ -185,6 +187,7 @@ impl fmt::Display for Refusal {
             Refusal::NoPoint => write!(f, "the tape is empty"),
             Refusal::HalfPoint => write!(f, "the length of the tape is odd, so that it ends in half a point"),
             Refusal::TooWide => write!(f, "the radius of the tree is above {RADIUS_LIMIT}"),
+            Refusal::TwoRecords => write!(f, "one plot number stands for two differing records"),
             Refusal::WrongLength => write!(f, "a slice has the wrong length"),
             Refusal::Unknown(_) => write!(f, "a number of another version of the library"),
         }
@@ -214,6 +217,7 @@ mod calls {
         pub fn kx_sheet_read(sheet: *const u8, sheet_len: usize, len: usize, k: u32, number: *mut u32, start: *mut i32, start_len: usize, sides: *mut u32, sides_len: usize, fee_row: *mut u16) -> u32;
         pub fn kx_sheet_start(sheet: *mut u8, sheet_len: usize, heading: usize, len: *mut usize) -> u32;
         pub fn kx_sheet_insert(sheet: *mut u8, sheet_len: usize, len: usize, number: u32, start: *const i32, start_len: usize, sides: *const u32, sides_len: usize, fee_row: u16, grown: *mut usize) -> u32;
+        pub fn kx_sheet_join(first: *const u8, first_room: usize, first_len: usize, second: *const u8, second_room: usize, second_len: usize, joined: *mut u8, joined_room: usize, len: *mut usize) -> u32;
         pub fn kx_list(sheet: *const u8, sheet_len: usize, len: usize, text: *mut [u8; super::TEXT], written: *mut usize) -> u32;
     }
 }
@@ -383,6 +387,21 @@ pub fn sheet_insert(sheet: &mut [u8], len: usize, plot: &Plot) -> Result<usize, 
     let Plot { number, start, sides, fee_row } = plot;
     answer(|grown: &mut usize| unsafe {
         calls::kx_sheet_insert(sheet.as_mut_ptr(), sheet.len(), len, *number, start.as_ptr(), start.len(), sides.as_ptr(), sides.len(), *fee_row, grown)
+    })
+}
+
+/// Joins the sheet in the first `first_len` bytes of one slice and that in the first `second_len` of another, at the start of a
+/// third: the new length. The first two may overlap, or be one.
+///
+/// What is written is the first sheet's heading, the records of both by rising number, of [`RECORD`] bytes each, and a trailer. A
+/// plot that both have with one outline and one fee row is kept once: a record of [`BASE_RECORD`] bytes, whose fee row is 0, equals
+/// one of [`FEE_RECORD`] that says 0. The bytes of `joined` past the new length keep their values.
+///
+/// Refusals: those of [`sheet_check`] for the first sheet, then those for the second; `TwoRecords` when one plot number stands for
+/// two differing records, whatever the length of `joined` is; `NoRoom` when the new length is above that, or above [`SHEET_LIMIT`].
+pub fn sheet_join(first: &[u8], first_len: usize, second: &[u8], second_len: usize, joined: &mut [u8]) -> Result<usize, Refusal> {
+    answer(|len: &mut usize| unsafe {
+        calls::kx_sheet_join(first.as_ptr(), first.len(), first_len, second.as_ptr(), second.len(), second_len, joined.as_mut_ptr(), joined.len(), len)
     })
 }
 

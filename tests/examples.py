@@ -2,7 +2,7 @@
 """Works out what the examples of bindings/ write, on its own: python3 tests/examples.py > bindings/expected.txt
 
 It shares with the examples in C and Rust their operands and the words of a line. What the calls answer is worked out by cells.py,
-clearances.py, enclosing.py and sheets.py.
+clearances.py, enclosing.py, sheets.py and joins.py.
 """
 from math import inf, nan
 
@@ -11,6 +11,7 @@ from cells import PAIRED, PIECES, WRONG_LENGTH, corner, inside, outline, some, s
 from sheets import Refused
 from clearances import around
 from enclosing import enclose
+from joins import join
 
 
 def words(values):
@@ -232,6 +233,43 @@ def on_base_sheets():
     yield record("record 1", lambda: sheets.fetch(grown, 97, 1))
 
 
+SHARED = (21, -33, [15, 11, 18, 9, 22, 8, 17, 13])
+SOUTH = [(41, (-700, 95, [31, 301, 40, 20, 74, 263, 73, 25]), 40961), (9054, (1290, -812, [51, 28, 53, 37, 16, 45, 54, 19]), 515)]
+
+
+def southern(fee):
+    """A sheet whose records have 26 bytes, with this fee row for plot 770."""
+    return sheets.sheet(b"south half", SOUTH[0], (770, SHARED, fee), SOUTH[1])
+
+
+def on_joins():
+    """A sheet whose records have 24 bytes and one of 26, joined in a buffer of 132 bytes, of which some are lent."""
+    north, south, other = sheets.old_sheet(b"north", (770, SHARED), (70001, (*START, SIDES))), southern(0), southern(258)
+    buffer = bytearray(b"\xee" * 132)
+
+    def joined(what, first, second, room):
+        lent = buffer[:room]
+        try:
+            answer = "0 length %d" % join(first, len(first), second, len(second), lent)
+        except Refused as refusal:
+            answer = refusal.args[0]
+        buffer[:room] = lent
+        return "join %s: %s\n" % (what, answer)
+
+    def shown():
+        return "bytes %s\n" % buffer.hex()
+
+    yield sheets.listing(north, len(north)) + sheets.listing(south, len(south))
+    yield joined("north and south, one byte short", north, south, 124) + shown()
+    yield joined("north and south", north, south, 125) + shown() + sheets.listing(buffer, 125)
+    yield joined("south and north", south, north, 130) + shown()
+    yield joined("north and itself", north, north, 73) + shown()
+    yield joined("where 770 has two fee rows", north, other, 132) + joined("the same with no buffer", north, other, 0)
+    wrong = other[:-1] + b"E"
+    yield joined("of wrong letters and a length of 15", wrong, north[:15], 132)
+    yield joined("of a length of 15 and wrong letters", north[:15], wrong, 132) + shown()
+
+
 def limits():
     """What is answered at a limit, and one past it."""
 
@@ -262,5 +300,5 @@ def limits():
 
 
 if __name__ == "__main__":
-    for part in octagons, uneven, opposed_rows, splits, tapes, trees, on_sheets, on_base_sheets, limits:
+    for part in octagons, uneven, opposed_rows, splits, tapes, trees, on_sheets, on_base_sheets, on_joins, limits:
         print("".join(part()), end="")

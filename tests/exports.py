@@ -2,7 +2,7 @@
 """Works out what crates/export_cases writes, on its own: python3 tests/exports.py > crates/export_cases/stdout
 
 It shares with the program its operands and the form of a line: the name of a call, the number that it answers, and the memory that it
-was lent, as it is afterwards. What the calls answer is worked out by cells.py, clearances.py, enclosing.py and sheets.py.
+was lent, as it is afterwards. What the calls answer is worked out by cells.py, clearances.py, enclosing.py, sheets.py and joins.py.
 """
 import struct
 from math import inf, isnan, nan
@@ -12,6 +12,7 @@ from cells import PAIRED, WRONG_LENGTH, corner, inside, outline, some, split, ti
 from sheets import Refused
 from clearances import MAX, MIN, around
 from enclosing import enclose
+from joins import join
 
 PLOT = [5, 4, 0, 10, 12, 19, 11, 9]
 OCTAGONS = [PLOT, [-4, -1, 5, 11, 7, 4, -2, -7], [5, 4, 0, 10, 40, 27, 11, 20], [6, 2, 7, 5, 8, -2, 9, -5]]
@@ -202,6 +203,7 @@ def listed(buffer, length):
     return line("list", 0, [len(text), TEXT]) + "\n" + text
 
 
+BUFFER = bytes([*range(32, 127), *range(128, 136)])
 START, SIDES = [-4, -5], [3, 1, 14, 2, 5, 4, 6, 7]
 WEST = (513, [-1000, 2000], [303, 1, 714, 2, 305, 4, 706, 7])
 SOUTH = ([-8, -11], [6, 7, 3, 1, 14, 2, 5, 4])
@@ -236,17 +238,49 @@ def narrow(buffer):
     yield from records(buffer, 97, 96)
 
 
+OLD = sheets.old_sheet(BUFFER[:3], (513, (-1000, 2000, WEST[2])), (70001, (-4, -5, SIDES)))
+NARROW = OLD + BUFFER[len(OLD) :]
+
+
 def on_sheets():
-    buffer = bytearray([*range(32, 127), *range(128, 136)])
-    old = sheets.old_sheet(bytes(buffer[:3]), (513, (-1000, 2000, WEST[2])), (70001, (-4, -5, SIDES)))
-    other = bytearray(old) + buffer[len(old) :]
-    kept = bytes(other)
+    buffer, other = bytearray(BUFFER), bytearray(NARROW)
     yield from started(buffer)
     yield from narrow(other)
-    yield listed(buffer, 97) + listed(kept, 67) + listed(other, 97)
+    yield listed(buffer, 97) + listed(NARROW, 67) + listed(other, 97)
     buffer[3:5] = b"\0\0"
     yield both(buffer, 97, 0) + both(buffer, 97, 3) + listed(buffer, 97)
 
 
+# ---- joins
+
+HALF = sheets.sheet(b"south", (770, (21, -33, [15, 11, 18, 9, 22, 8, 17, 13]), 258), (70001, (-4, -5, SIDES), 0)) + b"wxyz"
+
+
+def sheet_join(first, first_length, second, second_length, room):
+    """The call on the first bytes of a buffer."""
+    length, lent = [101], bytearray(BUFFER[:room])
+    answer = called(True, lambda: [[join(first, first_length, second, second_length, lent)]], length)
+    return line("sheet_join", answer, length, [lent.hex(), first.hex(), second.hex()])
+
+
+def changed(at, byte):
+    return HALF[:at] + bytes([byte]) + HALF[at + 1 :]
+
+
+def on_joins():
+    for room in (103, 97):
+        yield sheet_join(NARROW, 67, HALF, 73, room)
+    for room in (103, 99):
+        yield sheet_join(HALF, 73, NARROW, 67, room)
+    yield sheet_join(NARROW, 67, NARROW, 67, 75)
+    yield sheet_join(NARROW, 67, HALF, 73, 96) + sheet_join(HALF, 73, NARROW, 67, 98) + sheet_join(NARROW, 67, HALF, 73, 0)
+    half = changed(55, 1)
+    yield sheet_join(NARROW, 67, half, 73, 103) + sheet_join(half, 73, NARROW, 67, 103) + sheet_join(NARROW, 67, half, 73, 0)
+    for first_length, second_length, room in (15, 72, 103), (66, 15, 103), (67, 78, 103), (67, 72, 0):
+        yield sheet_join(NARROW, first_length, half, second_length, room)
+    yield sheet_join(changed(57, 51), 73, NARROW, 15, 103) + sheet_join(NARROW, 67, changed(7, 2), 73, 103)
+    yield sheet_join(NARROW, 67, changed(13, 16), 73, 103) + sheet_join(changed(10, 127), 73, NARROW, 66, 103)
+
+
 if __name__ == "__main__":
-    print("".join(octagons()) + "".join(on_tapes()) + "".join(on_trees()) + "".join(on_sheets()), end="")
+    print("".join(octagons()) + "".join(on_tapes()) + "".join(on_trees()) + "".join(on_sheets()) + "".join(on_joins()), end="")

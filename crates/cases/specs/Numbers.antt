@@ -19,7 +19,7 @@ use Rattle.records.specs.Numbers.{bytes}
 use Rattle.sheet.specs.Layout.{base-layout, base-length, fee-layout, fee-length, record-length}
 use Rattle.sheet.specs.Trailer.{trailer-length, letters, trailer-layout}
 use Rattle.sheet.specs.Sheets.{sheet-limit}
-use Rattle.sheet.specs.Answers.{bad-length, bad-trailer, bad-distance, bad-number, no-room, no-record}
+use Rattle.sheet.specs.Answers.{bad-length, bad-trailer, bad-distance, bad-number, no-room, no-record, two-records}
 use Rattle.tape.specs.Snapping.{not-finite}
 use Rattle.tape.specs.Enclosing.{no-point, half-point}
 use Rattle.clearance.specs.Clearing.{radius-limit, too-wide}
@@ -34,10 +34,10 @@ abbrev pub printed-limits : List ℕ
 printed-limits = 16000 ∷ 65535 ∷ 65536 ∷ 24 ∷ 26 ∷ 26 ∷ 16 ∷ 255 ∷ []
 
 -- the refusals: no cell, off the map, not closed, nothing left, too many folds, corner above 7, length, trailer, distance,
--- plot number, no room, no record; and those of document 02: not finite, no point, half a point, radius above 255. Document 02's U4 takes
--- document 01's 4 away
+-- plot number, no room, no record; and those of document 02: not finite, no point, half a point, radius above 255, one number for two
+-- records. Document 02's U4 takes document 01's 4 away
 abbrev pub printed-refusals : List ℕ
-printed-refusals = 1 ∷ 2 ∷ 3 ∷ 5 ∷ 6 ∷ 7 ∷ 8 ∷ 9 ∷ 10 ∷ 11 ∷ 12 ∷ 13 ∷ 14 ∷ 15 ∷ 16 ∷ 17 ∷ []
+printed-refusals = 1 ∷ 2 ∷ 3 ∷ 5 ∷ 6 ∷ 7 ∷ 8 ∷ 9 ∷ 10 ∷ 11 ∷ 12 ∷ 13 ∷ 14 ∷ 15 ∷ 16 ∷ 17 ∷ 18 ∷ []
 
 -- "the letters GRND"
 abbrev pub printed-letters : List ℕ
@@ -103,7 +103,7 @@ thirteen = 0 ∷ 1 ∷ 2 ∷ 3 ∷ 4 ∷ 5 ∷ 6 ∷ 7 ∷ 8 ∷ 9 ∷ 10 ∷ 11
 pub fixed-numbers : List (Case Fixed)
 fixed-numbers =
     is (numbers (limit ∷ fold-limit ∷ sheet-limit ∷ base-length ∷ fee-length ∷ record-length ∷ trailer-length ∷ radius-limit ∷ [])) (numbers printed-limits) ∷
-    is (numbers (no-cell ∷ off-map ∷ not-closed ∷ nothing-left ∷ too-many-folds ∷ no-vertex ∷ bad-length ∷ bad-trailer ∷ bad-distance ∷ bad-number ∷ no-room ∷ no-record ∷ not-finite ∷ no-point ∷ half-point ∷ too-wide ∷ []))
+    is (numbers (no-cell ∷ off-map ∷ not-closed ∷ nothing-left ∷ too-many-folds ∷ no-vertex ∷ bad-length ∷ bad-trailer ∷ bad-distance ∷ bad-number ∷ no-room ∷ no-record ∷ not-finite ∷ no-point ∷ half-point ∷ too-wide ∷ two-records ∷ []))
     (numbers printed-refusals) ∷
     is (numbers (bytes 4 letters)) (numbers printed-letters) ∷
     is (numbers (map (λ w. 8 * w) base-layout)) (numbers (printed-record-fields 0)) ∷

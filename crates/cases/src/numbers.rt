@@ -28,7 +28,7 @@ fn limits() -> [u32; 8]
     ]
 }
 
-fn refusals() -> [u32; 16]
+fn refusals() -> [u32; 17]
     ensures { λ r. ⌜ r ≡ numbers.printed-refusals ⌝ }
 {
     [
@@ -48,6 +48,7 @@ fn refusals() -> [u32; 16]
         tape::NO_POINT,
         tape::HALF_POINT,
         clearance::TOO_WIDE,
+        sheet::TWO_RECORDS,
     ]
 }
 

@@ -12,10 +12,10 @@ use Rattle.octagon.proofs.Unique.{equal}
 use Rattle.outline.specs.declared.Outline.{Outline}
 use Rattle.outline.specs.Closing.{Closes}
 use Rattle.outline.specs.Tracing.{drawn}
+use Rattle.outline.specs.Sameness.{SameSides}
 use Rattle.outline.proofs.Drawn.{Drawn, closed-drawn}
 use Rattle.morphology.specs.Operations.{sums}
 use Rattle.morphology.proofs.Sums.{Summed, summed}
-use Rattle.decomposition.proofs.Sides.{SameSides}
 
 -- an outline from (0, 0) that closes
 pub record AtOrigin (p : Outline) : Type 0 where

@@ -5,12 +5,13 @@ use Prim.Native.Nat.{ℕ}
 use native.Mathlib.Omega.{arith}
 use Rattle.outline.specs.declared.Outline.{Outline}
 use Rattle.outline.specs.Closing.{Closes}
+use Rattle.outline.specs.Sameness.{SameSides}
 use Rattle.decomposition.specs.declared.Counts.{Counts}
 use Rattle.decomposition.specs.declared.pairing.Triangles.{Triangles}
 use Rattle.decomposition.specs.Rule.{Pair, Chosen, Rule}
 use Rattle.decomposition.specs.Pairs.{triangles-in, made, triangles-of, CaseFits, fit-triangles}
 use Rattle.decomposition.specs.Splitting.{rest, with-rows, first-counts, with-k13, counts}
-use Rattle.decomposition.proofs.Sides.{SameSides, makes-same, same-makes}
+use Rattle.decomposition.proofs.Sides.{makes-same, same-makes}
 use Rattle.decomposition.proofs.Pairs.{fits-made}
 use Rattle.decomposition.proofs.Found.{found}
 use Rattle.decomposition.proofs.Rests.{rest-of, some-case, Rows, made-with-rows, of-two-kinds, forced}

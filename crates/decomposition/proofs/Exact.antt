@@ -10,16 +10,17 @@ use Rattle.outline.specs.Closing.{Closes}
 use Rattle.outline.specs.Walk.{InsideWalk}
 use Rattle.outline.specs.Tracing.{drawn}
 use Rattle.outline.specs.Meaning.{no-sides}
+use Rattle.outline.specs.Sameness.{SameSides}
 use Rattle.outline.proofs.Drawn.{Drawn, closed-drawn, closed-normal}
 use Rattle.outline.proofs.Inside.{inside-walk}
 use Rattle.outline.proofs.OneCell.{no-sides-close, one-cell-drawn}
+use Rattle.outline.proofs.Sameness.{equal-outlines}
 use Rattle.morphology.specs.Sets.{Dilated, DilatedTimes}
 use Rattle.morphology.proofs.Meet.{Opposed}
 use Rattle.morphology.proofs.Sums.{sums-exact}
 use Rattle.morphology.proofs.SetLaws.{same-sym, same-trans, dilated-same}
 use Rattle.decomposition.specs.declared.Start.{Start}
 use Rattle.decomposition.specs.Pieces.{Only, DilatedByEach}
-use Rattle.decomposition.proofs.Sides.{SameSides}
 use Rattle.decomposition.proofs.Added.{AtOrigin, Added, added-closes, added-sums, plus, plus-none, plus-one, plus-more, plus-each}
 
 -- A is the octagon of an outline that closes
@@ -28,20 +29,7 @@ pub record Exact (A : Cells) (o : Outline) : Type 0 where
   pub cells : A ≐ In (drawn o)
 
 pub exact-same : (A : Cells) (o p : Outline) → p .i ≡ o .i → p .j ≡ o .j → SameSides p o → Exact A o → Exact A p
-exact-same A o p ei ej s e =
-    let q : p ≡ o = λ i. record {
-      i = ei i;
-      j = ej i;
-      n0 = s .e0 i;
-      n1 = s .e1 i;
-      n2 = s .e2 i;
-      n3 = s .e3 i;
-      n4 = s .e4 i;
-      n5 = s .e5 i;
-      n6 = s .e6 i;
-      n7 = s .e7 i;
-    } in
-    rw q e
+exact-same A o p ei ej s e = rw (equal-outlines ei ej s) e
 
 -- ---- opposed rows by the sides
 

@@ -6,12 +6,12 @@ use native.Mathlib.Omega.{arith}
 use lib.Dec.{ltb, eqb}
 use borrow.Author.Tests.{ltb-true, eqb-true, lt-ltb, eq-eqb}
 use Rattle.integers.proofs.Tests.{cases, both-true, and-true, true-is-not-false}
-use Rattle.outline.specs.declared.Outline.{Outline}
+use Rattle.outline.specs.Sameness.{SameSides}
+use Rattle.outline.proofs.Sameness.{same-self}
 use Rattle.decomposition.specs.declared.Counts.{Counts}
 use Rattle.decomposition.specs.Rule.{others, Crossed, exchanged, Last, exchange, keep}
 use Rattle.decomposition.specs.Pairs.{made}
 use Rattle.decomposition.specs.Splitting.{is-crossed, with-k13}
-use Rattle.decomposition.proofs.Sides.{SameSides}
 
 pub test-crossed : (k : Counts) → is-crossed k ≡ true → Crossed k
 unfolding is-crossed
@@ -52,9 +52,6 @@ last-with-k13 m k = cases (is-crossed m) yes no
 exchanged-made : (k : Counts) → Crossed k → k .k13 ≡ 0 → SameSides (made (exchanged k)) (made k)
 exchanged-made k c z = omega arith
 
-same-refl : (o : Outline) → SameSides o o
-same-refl o = omega arith
-
 pub with-k13-made : (k : Counts) → k .k13 ≡ 0 → SameSides (made (with-k13 k)) (made k)
 unfolding with-k13
-with-k13-made k z = cases (is-crossed k) (λ t. rw t (exchanged-made k (test-crossed k t) z)) (λ f. rw f (same-refl (made k)))
+with-k13-made k z = cases (is-crossed k) (λ t. rw t (exchanged-made k (test-crossed k t) z)) (λ f. rw f (same-self (made k)))

@@ -7,11 +7,13 @@ use Prim.Native.Nat.{ℕ, _+_, _*_, min}
 use native.Mathlib.Omega.{arith}
 use Rattle.outline.specs.declared.Outline.{Outline}
 use Rattle.outline.specs.Tables.{pieces, piece-sides}
+use Rattle.outline.specs.Sameness.{SameSides}
+use Rattle.outline.proofs.Sameness.{test-same, same-test}
 use Rattle.decomposition.specs.declared.pairing.Triangles.{Triangles}
 use Rattle.decomposition.specs.Pieces.{outlines, piece-of, listed}
 use Rattle.decomposition.specs.Rule.{together, Pair, case-i, case-ii, case-iii, case-iv, case-v, case-vi, case-vii, case-viii}
 use Rattle.decomposition.specs.Pairs.{of-kinds, without-rows, made, have-sides, read-off, read-triangles, case-fits, piece-side, CaseFits, fit-triangles}
-use Rattle.decomposition.proofs.Sides.{SameSides, test-same, same-test, makes-same, same-makes}
+use Rattle.decomposition.proofs.Sides.{makes-same, same-makes}
 
 -- ---- the sides of a pair
 

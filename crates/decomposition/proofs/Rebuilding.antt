@@ -13,6 +13,7 @@ use Rattle.outline.specs.Closing.{Closes}
 use Rattle.outline.specs.Tables.{pieces, piece-sides}
 use Rattle.outline.specs.Walk.{InsideWalk}
 use Rattle.outline.specs.Tracing.{drawn}
+use Rattle.outline.specs.Sameness.{SameSides}
 use Rattle.morphology.specs.Sets.{DilatedTimes}
 use Rattle.morphology.proofs.SetLaws.{same-refl, same-trans, dilated-times-same}
 use Rattle.decomposition.specs.declared.Start.{Start}
@@ -21,7 +22,6 @@ use Rattle.decomposition.specs.Pieces.{outlines, piece-of, listed, Only,
 use Rattle.decomposition.specs.Rule.{Crossed, recounted}
 use Rattle.decomposition.specs.Pairs.{made}
 use Rattle.decomposition.specs.Splitting.{first-counts, is-crossed, with-k13, counts, split-of}
-use Rattle.decomposition.proofs.Sides.{SameSides}
 use Rattle.decomposition.proofs.Choice.{counts-made}
 use Rattle.decomposition.proofs.LastStep.{crossed-test}
 use Rattle.decomposition.proofs.Order.{put-last}

@@ -6,12 +6,12 @@ use native.Mathlib.Decide.{decLe}
 use native.Mathlib.Omega.{arith}
 use Rattle.outline.specs.declared.Outline.{Outline}
 use Rattle.outline.specs.Closing.{Closes}
+use Rattle.outline.specs.Sameness.{SameSides}
 use Rattle.decomposition.specs.declared.Counts.{Counts}
 use Rattle.decomposition.specs.Rule.{count-of-kind, Pair, case-i, case-ii, case-iii, case-iv, case-v, case-vi, case-vii, case-viii, triangles, TwoKinds}
 use Rattle.decomposition.specs.Pairs.{of-kinds, triangles-in, rows-and-triangles, made, a-case, triangles-of, CaseFits, FitsSome}
 use Rattle.decomposition.specs.Splitting.{rest}
 use Rattle.decomposition.specs.Meaning.{RestOf}
-use Rattle.decomposition.proofs.Sides.{SameSides}
 use Rattle.decomposition.proofs.Pairs.{MakeUp, minima, SameTriangles, equal-triangles, made-fits}
 use Rattle.decomposition.proofs.Found.{found-minima, found}
 

@@ -1,13 +1,14 @@
 -- The triangles that make what the rows leave of an outline (source document 000's A(4)), found by its eight cases: definitions that
 -- compute, and what it means that a case fits. proofs/Pairs.antt, Found.antt, Rests.antt and ByCases.antt have the theorems. Assumes nothing.
 use mathlib.Core.Path.{_≡_}
-use mathlib.Core.Bool.{Bool, cond, _&&_}
+use mathlib.Core.Bool.{Bool, cond}
 use mathlib.Core.List.{List, [], _∷_}
 use Prim.Native.Nat.{ℕ, _+_, _-_, _*_, _<_}
 use lib.Dec.{eqb}
 use lib.IntN.{pos}
 use Rattle.outline.specs.declared.Outline.{Outline}
 use Rattle.outline.specs.Walk.{side}
+use Rattle.outline.specs.Sameness.{same-sides}
 use Rattle.decomposition.specs.declared.Counts.{Counts}
 use Rattle.decomposition.specs.declared.pairing.Triangles.{Triangles}
 use Rattle.decomposition.specs.Pieces.{piece-of}
@@ -79,12 +80,6 @@ made k = record {
   n6 = k .k3 + k .k6 + k .k7 + 2 * k .k11;
   n7 = k .k4 + k .k8 + k .k10 + k .k12 + k .k13;
 }
-
--- whether two outlines have the same sides
-abbrev pub same-sides : Outline → Outline → Bool
-same-sides o p =
-    eqb (o .n0) (p .n0) && eqb (o .n1) (p .n1) && eqb (o .n2) (p .n2) && eqb (o .n3) (p .n3) &&
-    eqb (o .n4) (p .n4) && eqb (o .n5) (p .n5) && eqb (o .n6) (p .n6) && eqb (o .n7) (p .n7)
 
 -- whether triangles make a rest
 unfoldable pub have-sides : Triangles → Outline → Bool

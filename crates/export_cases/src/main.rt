@@ -1,6 +1,7 @@
 // Every exported function, called on slices of the right and of wrong lengths, accepted and refused: the number that it answers, and the
 // memory that it was lent, as it is afterwards. tests/exports.py works the expected output out on its own.
 mod clearances;
+mod joins;
 mod octagons;
 mod outlines;
 mod plots;
@@ -27,4 +28,5 @@ fn main() {
     tapes::tapes();
     clearances::clearances();
     plots::plots();
+    joins::joins();
 }

@@ -81,9 +81,14 @@ pub fn length(n: usize) {
     io::print_decimal(STDOUT_FILENO, n as u64);
 }
 
-// A length, and a buffer in hexadecimal digits.
-pub fn sheet(len: usize, buffer: &[u8]) {
-    length(len);
+// A buffer in hexadecimal digits, after a space.
+pub fn buffer(s: &[u8]) {
     text(b" ");
-    bytes(buffer);
+    bytes(s);
+}
+
+// A length, and a buffer.
+pub fn sheet(len: usize, s: &[u8]) {
+    length(len);
+    buffer(s);
 }

@@ -43,3 +43,12 @@ pub const NARROW: [u8; ROOM] = *b"\
     \x71\x11\x01\0\xfc\xff\xfb\xff\x03\0\x01\0\x0e\0\x02\0\x05\0\x04\0\x06\0\x07\0\
     \x30\0\0\0\x02\0\0\0\x18\0\0\0GRND\
     cdefghijklmnopqrstuvwxyz{|}~\x80\x81\x82\x83\x84\x85\x86\x87";
+
+// A sheet of 26 in the first 73 bytes: five bytes of heading, the plots 770 and 70001, and the trailer. Its plot 70001 is the one above, with
+// the fee row 0.
+pub const HALF: [u8; 77] = *b"\
+    south\
+    \x02\x03\0\0\x15\0\xdf\xff\x0f\0\x0b\0\x12\0\x09\0\x16\0\x08\0\x11\0\x0d\0\x02\x01\
+    \x71\x11\x01\0\xfc\xff\xfb\xff\x03\0\x01\0\x0e\0\x02\0\x05\0\x04\0\x06\0\x07\0\0\0\
+    \x34\0\0\0\x02\0\0\0\x1a\0\0\0GRND\
+    wxyz";

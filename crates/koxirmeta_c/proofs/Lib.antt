@@ -3,5 +3,6 @@ pub mod Stores
 pub mod Fitting
 pub mod Examples
 pub mod SheetExamples
+pub mod JoinExamples
 pub mod TapeExamples
 pub mod ClearanceExamples

@@ -84,7 +84,7 @@ one-plot =
     26 ∷ 0 ∷ 0 ∷ 0 ∷ 1 ∷ 0 ∷ 0 ∷ 0 ∷ 26 ∷ 0 ∷ 0 ∷ 0 ∷ 71 ∷ 82 ∷ 78 ∷ 68 ∷
     replicate 29 9
 
-abbrev two-plots : List ℕ
+abbrev pub two-plots : List ℕ
 two-plots =
     1 ∷ 2 ∷ 3 ∷
     1 ∷ 2 ∷ 0 ∷ 0 ∷ 248 ∷ 255 ∷ 245 ∷ 255 ∷ 6 ∷ 0 ∷ 7 ∷ 0 ∷ 3 ∷ 0 ∷ 1 ∷ 0 ∷ 14 ∷ 0 ∷ 2 ∷ 0 ∷ 5 ∷ 0 ∷ 4 ∷ 0 ∷ 12 ∷ 0 ∷

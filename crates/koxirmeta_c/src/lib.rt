@@ -1,4 +1,4 @@
-// The library for C and Rust: the calls of document 01, with U4's marks, and U1's and U3's of document 02, on numbers and lent slices,
+// The library for C and Rust: the calls of document 01, with U4's marks, and U1's, U3's and U6's of document 02, on numbers and lent slices,
 // without any `requires`. The crate listing_c has the listing.
 //
 // Every call answers a number: 0 where it is accepted, else the number of a refusal of documents 01 and 02, or `WRONG_LENGTH`. Where

@@ -1,8 +1,9 @@
-// Sheets in lent buffers: check, fetch, read, start and insert.
+// Sheets in lent buffers: check, fetch, read, start, insert and join.
 ghost use mathlib.Core.Path.{_≡_};
 ghost use Rattle.sheet.specs.Answers.{«count-outcome», «record-outcome», «length-outcome»};
 ghost use Rattle.sheet.specs.Checking.{checked};
 ghost use Rattle.sheet.specs.Writing.{started, «after-start»};
+ghost use Rattle.sheet.specs.Joining as joins;
 ghost use Rattle.koxirmeta_c.specs.Calls as calls;
 ghost use Rattle.koxirmeta_c.specs.Outlines.{«holds-outline»};
 ghost use Rattle.koxirmeta_c.specs.Sheets as sheets;
@@ -137,4 +138,23 @@ pub extern "C" fn kx_sheet_insert(
         return give_length(sheet::insert(sheet, len, r), grown);
     }
     WRONG_LENGTH
+}
+
+// Joins two sheets in a third buffer.
+#[no_mangle]
+pub extern "C" fn kx_sheet_join(
+    first: &[u8],
+    first_len: usize,
+    second: &[u8],
+    second_len: usize,
+    joined: &mut [u8],
+    len: &mut usize,
+) -> u32
+    ensures { λ r. ⌜ calls.Hands (joins.joined (now (first .entry)) «first_len» (now (second .entry)) «second_len» (now (joined .entry))) (λ n. n) (now (len .entry)) (now (len .exit)) r × (now (joined .exit) ≡ joins.after-join (now (first .entry)) «first_len» (now (second .entry)) «second_len» (now (joined .entry))) ⌝ }
+    ensures { λ _. ⌜ (now (first .exit) ≡ now (first .entry)) × (now (second .exit) ≡ now (second .entry)) ⌝ }
+{
+    give_length(
+        sheet::join(first, first_len, second, second_len, joined),
+        len,
+    )
 }

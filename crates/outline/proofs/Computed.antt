@@ -1,10 +1,12 @@
--- Small values of the definitions, computed: an outline whose eight sides differ, its octagon, its vertices in metres, and refusals.
--- Assumes nothing.
+-- Small values of the definitions, computed: an outline whose eight sides differ, its octagon, its vertices in metres, and refusals; and
+-- outlines compared. Assumes nothing.
 use mathlib.Core.Path.{_≡_, refl}
 use mathlib.Core.Bool.{true, false}
-use mathlib.Core.List.{[], _∷_}
+use mathlib.Core.List.{List, [], _∷_, _++_, map}
+use Prim.Native.Nat.{ℕ}
 use lib.IntN.{pos, negsuc}
 use lib.Ieee.{fin, round}
+use lib.ListN.{set, replicate}
 use Rattle.integers.specs.Minimum.{minℤ, halfℤ}
 use Rattle.octagon.specs.declared.Octagon.{Octagon}
 use Rattle.octagon.specs.Outcome.{accepted, refused}
@@ -15,6 +17,7 @@ use Rattle.outline.specs.Walk.{with-sides, vertex}
 use Rattle.outline.specs.Tracing.{bounds-at, drawn, traced}
 use Rattle.outline.specs.Outlining.{outline-of, outlined}
 use Rattle.outline.specs.Places.{over, place-of-vertex, located}
+use Rattle.outline.specs.Sameness.{same-outline}
 
 -- the outline from (-4, -5) with the sides 3 1 14 2 5 4 6 7, and its bounds
 abbrev uneven : Outline
@@ -60,3 +63,25 @@ vertex-7 = refl
 vertex-8 : located its-bounds 8 ≡ refused 7
 unfolding located place-of-vertex outlined normalised normal-form tight-odd tight-even even-bound odd-bound minℤ halfℤ has-cell placed is-on-map outline-of sides
 vertex-8 = refl
+
+-- ---- outlines compared
+
+abbrev ten-sides : List ℕ
+ten-sides = 3 ∷ 1 ∷ 14 ∷ 2 ∷ 8 ∷ 4 ∷ 6 ∷ 7 ∷ []
+
+-- from (5, -9): all ten numbers differ
+abbrev ten : Outline
+ten = with-sides (pos 5) (negsuc 8) ten-sides
+
+-- with one number altered, i to -5 and to -6 and j to 9 and to 8; with i and j exchanged, and with two sides exchanged
+abbrev unlike : List Outline
+unlike =
+    with-sides (negsuc 4) (negsuc 8) ten-sides ∷ with-sides (negsuc 5) (negsuc 8) ten-sides ∷
+    with-sides (pos 5) (pos 9) ten-sides ∷ with-sides (pos 5) (pos 8) ten-sides ∷ with-sides (negsuc 8) (pos 5) ten-sides ∷
+    (map (λ k. with-sides (pos 5) (negsuc 8) (set ten-sides k 9)) (0 ∷ 1 ∷ 2 ∷ 3 ∷ 4 ∷ 5 ∷ 6 ∷ 7 ∷ []) ++
+    map (with-sides (pos 5) (negsuc 8)) ((1 ∷ 3 ∷ 14 ∷ 2 ∷ 8 ∷ 4 ∷ 6 ∷ 7 ∷ []) ∷ (3 ∷ 1 ∷ 14 ∷ 2 ∷ 8 ∷ 4 ∷ 7 ∷ 6 ∷ []) ∷ []))
+
+-- each of two outlines is itself, and the one is neither the other nor any of those
+compared : map (λ o. same-outline o o) (ten ∷ uneven ∷ []) ++ map (same-outline ten) (uneven ∷ unlike) ≡ true ∷ true ∷ replicate 16 false
+unfolding same-outline
+compared = refl

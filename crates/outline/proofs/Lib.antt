@@ -11,4 +11,5 @@ pub mod Lengths
 pub mod RoundTrips
 pub mod Over
 pub mod Metres
+pub mod Sameness
 pub mod Computed

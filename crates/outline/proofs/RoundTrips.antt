@@ -21,6 +21,7 @@ use Rattle.outline.specs.Tracing.{drawn, traced}
 use Rattle.outline.specs.Outlining.{outline-of, outlined}
 use Rattle.outline.proofs.Closed.{closes-test}
 use Rattle.outline.proofs.Drawn.{Drawn, closed-drawn, closed-normal}
+use Rattle.outline.proofs.Sameness.{equal-outlines}
 use Rattle.outline.proofs.Tracings.{Tracing, is-octagon, is-open, is-off, tracing}
 
 -- ---- the outline of normalised bounds, as linear facts
@@ -60,27 +61,11 @@ outline-facts a n = record {
 
 -- ---- from an outline to its octagon and back
 
-equal-outlines : {p o : Outline} → p .i ≡ o .i → p .j ≡ o .j → p .n0 ≡ o .n0 → p .n1 ≡ o .n1 → p .n2 ≡ o .n2 → p .n3 ≡ o .n3 → p .n4 ≡ o .n4 →
-    p .n5 ≡ o .n5 → p .n6 ≡ o .n6 → p .n7 ≡ o .n7 → p ≡ o
-equal-outlines ei ej e0 e1 e2 e3 e4 e5 e6 e7 k =
-    record { i = ei k; j = ej k; n0 = e0 k; n1 = e1 k; n2 = e2 k; n3 = e3 k; n4 = e4 k; n5 = e5 k; n6 = e6 k; n7 = e7 k }
-
-same-outline : (a : Octagon) (o p : Outline) → Closes o → Drawn o a → SidesOf a p → p ≡ o
-same-outline a o p k d f =
-    equal-outlines
-    (parts-eq (p .i) (o .i) (omega arith))
-    (parts-eq (p .j) (o .j) (omega arith))
-    (omega arith)
-    (omega arith)
-    (omega arith)
-    (omega arith)
-    (omega arith)
-    (omega arith)
-    (omega arith)
-    (omega arith)
+its-outline : (a : Octagon) (o p : Outline) → Closes o → Drawn o a → SidesOf a p → p ≡ o
+its-outline a o p k d f = equal-outlines (parts-eq (p .i) (o .i) (omega arith)) (parts-eq (p .j) (o .j) (omega arith)) (omega arith)
 
 there : (o : Outline) → Closes o → outline-of (drawn o) ≡ o
-there o k = same-outline (drawn o) o (outline-of (drawn o)) k (closed-drawn o k) (outline-facts (drawn o) (closed-normal o k))
+there o k = its-outline (drawn o) o (outline-of (drawn o)) k (closed-drawn o k) (outline-facts (drawn o) (closed-normal o k))
 
 outlined-when : (a : Octagon) → Normal a → Near a → outlined a ≡ accepted (outline-of a)
 unfolding outlined

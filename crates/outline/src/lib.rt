@@ -2,7 +2,8 @@
 //
 // tables.rt and specs/Tables.antt have the step vectors and the pieces. specs/Walk.antt has the walk round an outline and the cells inside
 // it; specs/Tracing.antt, Outlining.antt and Places.antt what the three calls answer, specs/Meaning.antt what that means;
-// proofs/Tracings.antt, OneCell.antt, Vertices.antt, RoundTrips.antt and Metres.antt the theorems between them.
+// proofs/Tracings.antt, OneCell.antt, Vertices.antt, RoundTrips.antt and Metres.antt the theorems between them. comparing.rt and
+// specs/Sameness.antt tell whether two outlines are one.
 ghost use mathlib.Core.Path.{_≡_};
 ghost use Rattle.octagon.specs.Answers.{outcome as «octagon-outcome»};
 ghost use Rattle.outline.specs.Tracing.{traced};
@@ -13,6 +14,7 @@ use octagon::Octagon;
 use place::Place;
 
 mod closing;
+pub mod comparing;
 mod drawing;
 mod locating;
 pub mod place;

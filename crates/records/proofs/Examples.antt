@@ -5,7 +5,7 @@ use Prim.Native.Nat.{ℕ}
 use lib.IntN.{pos, negsuc}
 use Rattle.records.specs.Text.{ascii}
 use Rattle.records.specs.Numbers.{number, bytes, signed, twos, packed, unpacked}
-use Rattle.records.specs.Rows.{records, joined}
+use Rattle.records.specs.Rows.{records, end-to-end}
 
 -- 1 + 2 * 256 + 3 * 256 ^ 2 + 4 * 256 ^ 3
 pub little-endian : (number (1 ∷ 2 ∷ 3 ∷ 4 ∷ []) ≡ 67305985) × (bytes 4 67305985 ≡ 1 ∷ 2 ∷ 3 ∷ 4 ∷ []) × (bytes 2 513 ≡ 1 ∷ 2 ∷ [])
@@ -32,5 +32,5 @@ letters-in-order = refl
 abbrev two : List (List ℕ)
 two = (1 ∷ 2 ∷ 3 ∷ 4 ∷ 17 ∷ []) ∷ (5 ∷ 6 ∷ 7 ∷ 8 ∷ 18 ∷ []) ∷ []
 
-pub records-in-order : (records 5 (16 ∷ 1 ∷ 2 ∷ 3 ∷ 4 ∷ 17 ∷ 5 ∷ 6 ∷ 7 ∷ 8 ∷ 18 ∷ 19 ∷ []) 1 2 ≡ two) × (joined two ≡ 1 ∷ 2 ∷ 3 ∷ 4 ∷ 17 ∷ 5 ∷ 6 ∷ 7 ∷ 8 ∷ 18 ∷ [])
+pub records-in-order : (records 5 (16 ∷ 1 ∷ 2 ∷ 3 ∷ 4 ∷ 17 ∷ 5 ∷ 6 ∷ 7 ∷ 8 ∷ 18 ∷ 19 ∷ []) 1 2 ≡ two) × (end-to-end two ≡ 1 ∷ 2 ∷ 3 ∷ 4 ∷ 17 ∷ 5 ∷ 6 ∷ 7 ∷ 8 ∷ 18 ∷ [])
 records-in-order = (refl, refl)

@@ -12,7 +12,7 @@ use Rattle.integers.proofs.Tests.{both-true}
 use Rattle.records.specs.Numbers.{AreBytes, number, bytes, total-width, narrow, packed, unpacked}
 use Rattle.records.specs.Fields.{field-at, field, HasFields}
 use Rattle.records.proofs.Parts.{part-by-ends}
-use Rattle.records.proofs.Numbers.{drop-bytes, number-take, length-bytes, number-bytes, bytes-number}
+use Rattle.records.proofs.Numbers.{drop-bytes, append-bytes, bytes-are, number-take, length-bytes, number-bytes, bytes-number}
 
 -- as many numbers as fields, each within its width
 pub data Fit : List ℕ → List ℕ → Type 0 where
@@ -95,3 +95,9 @@ fields-written (w ∷ ws) (v ∷ vs) zero e h = take-at (bytes w v) (packed ws v
 fields-written (w ∷ ws) (v ∷ vs) (suc k) e h =
     rw (← drop-drop (field-at ws k) w (bytes w v ++ packed ws vs), drop-at (bytes w v) (packed ws vs) w (length-bytes w v))
     (fields-written ws vs k (omega arith) (omega arith))
+
+-- what is written is bytes
+pub packed-bytes : (ws vs : List ℕ) → AreBytes (packed ws vs)
+packed-bytes [] vs i = omega arith
+packed-bytes (w ∷ ws) [] i = omega arith
+packed-bytes (w ∷ ws) (v ∷ vs) i = append-bytes (bytes w v) (packed ws vs) (bytes-are w v) (packed-bytes ws vs) i

@@ -1,7 +1,7 @@
 -- Numbers in bytes: a part read byte by byte, the way there and back, each byte by its place, and two's complement. Assumes nothing.
 use mathlib.Core.Path.{_≡_, refl, sym, ap, _∙_}
 use mathlib.Core.Logic.{_⊎_, inl, inr}
-use mathlib.Core.List.{List, [], _∷_}
+use mathlib.Core.List.{List, [], _∷_, _++_}
 use Prim.Native.Nat.{ℕ, zero, suc, _+_, _-_, _*_, _/_, _%_, _^_, _≤_, _<_}
 use native.Mathlib.Omega.{arith}
 use native.Mathlib.Nat.{pow-suc, pow-zero, pow-succ', one-le-pow, div-one, zero-div, div-div-eq-div-mul}
@@ -39,6 +39,17 @@ take-bytes zero s h i = omega arith
 take-bytes (suc n) [] h i = h i
 take-bytes (suc n) (b ∷ s) h zero = h 0
 take-bytes (suc n) (b ∷ s) h (suc i) = take-bytes n s (tail-bytes b s h) i
+
+-- lists of bytes one after the other are bytes, and so is what is written of a number
+pub append-bytes : (a b : List ℕ) → AreBytes a → AreBytes b → AreBytes (a ++ b)
+append-bytes [] b p q i = q i
+append-bytes (x ∷ a) b p q zero = p 0
+append-bytes (x ∷ a) b p q (suc i) = append-bytes a b (λ j. p (suc j)) q i
+
+pub bytes-are : (w v : ℕ) → AreBytes (bytes w v)
+bytes-are zero v i = omega arith
+bytes-are (suc w) v zero = omega arith
+bytes-are (suc w) v (suc i) = bytes-are w (v / 256) i
 
 -- w bytes hold a number below 256 ^ w
 pub number-take : (w : ℕ) (s : List ℕ) → AreBytes s → number (take w s) < 256 ^ w

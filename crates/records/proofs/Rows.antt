@@ -7,7 +7,7 @@ use native.Mathlib.Nat.{mul-zero, mul-suc, mul-one, mul-add}
 use lib.ListN.{length, length-append}
 use lib.Seq.{drop-at, take-at}
 use Rattle.records.specs.Parts.{part}
-use Rattle.records.specs.Rows.{records, joined}
+use Rattle.records.specs.Rows.{records, end-to-end}
 
 -- ---- multiples of the record length
 
@@ -31,9 +31,9 @@ pub records-more : (L : ℕ) (s : List ℕ) (at n : ℕ) → 0 < n → records L
 records-more L s at zero h = absurd (omega arith)
 records-more L s at (suc n) h = let e : suc n - 1 ≡ n = omega arith in rw e
 
-pub joined-append : (rs ts : List (List ℕ)) → joined (rs ++ ts) ≡ joined rs ++ joined ts
-joined-append [] ts = refl
-joined-append (r ∷ rs) ts = ap (λ (x : List ℕ). r ++ x) (joined-append rs ts) ∙ sym (append-assoc r (joined rs) (joined ts))
+pub end-to-end-append : (rs ts : List (List ℕ)) → end-to-end (rs ++ ts) ≡ end-to-end rs ++ end-to-end ts
+end-to-end-append [] ts = refl
+end-to-end-append (r ∷ rs) ts = ap (λ (x : List ℕ). r ++ x) (end-to-end-append rs ts) ∙ sym (append-assoc r (end-to-end rs) (end-to-end ts))
 
 pub length-records : (L : ℕ) (s : List ℕ) (at n : ℕ) → length (records L s at n) ≡ n
 length-records L s at zero = refl
@@ -44,14 +44,14 @@ pub data Each (L : ℕ) : List (List ℕ) → Type 0 where
   none : Each L []
   more : {r : List ℕ} {rs : List (List ℕ)} → length r ≡ L → Each L rs → Each L (r ∷ rs)
 
-pub length-joined : {L : ℕ} {rs : List (List ℕ)} → Each L rs → length (joined rs) ≡ L * length rs
-length-joined {L} none = sym (mul-zero L)
-length-joined {L} (more {r = r} {rs = rs} l m) = length-append r (joined rs) ∙ omega (arith, length-joined m, mul-suc L (length rs))
+pub length-end-to-end : {L : ℕ} {rs : List (List ℕ)} → Each L rs → length (end-to-end rs) ≡ L * length rs
+length-end-to-end {L} none = sym (mul-zero L)
+length-end-to-end {L} (more {r = r} {rs = rs} l m) = length-append r (end-to-end rs) ∙ omega (arith, length-end-to-end m, mul-suc L (length rs))
 
 -- records that were written are read again
-pub records-joined : {L : ℕ} {rs : List (List ℕ)} (h z : List ℕ) (at : ℕ) → length h ≡ at → Each L rs → records L (h ++ (joined rs ++ z)) at (length rs) ≡ rs
-records-joined h z at e none = refl
-records-joined {L} h z at e (more {r = r} {rs = rs} l m) =
-    let e₁ : part (h ++ (r ++ joined rs ++ z)) at L ≡ r = rw (drop-at h (r ++ joined rs ++ z) at e, append-assoc) (take-at r (joined rs ++ z) L l) in
-    let e₂ : h ++ (r ++ joined rs ++ z) ≡ (h ++ r) ++ (joined rs ++ z) = simp append-assoc in
-    rw e₁ (ap (λ (x : List (List ℕ)). r ∷ x) (rw e₂ (records-joined (h ++ r) z (at + L) (length-append h r ∙ omega arith) m)))
+pub records-end-to-end : {L : ℕ} {rs : List (List ℕ)} (h z : List ℕ) (at : ℕ) → length h ≡ at → Each L rs → records L (h ++ (end-to-end rs ++ z)) at (length rs) ≡ rs
+records-end-to-end h z at e none = refl
+records-end-to-end {L} h z at e (more {r = r} {rs = rs} l m) =
+    let e₁ : part (h ++ (r ++ end-to-end rs ++ z)) at L ≡ r = rw (drop-at h (r ++ end-to-end rs ++ z) at e, append-assoc) (take-at r (end-to-end rs ++ z) L l) in
+    let e₂ : h ++ (r ++ end-to-end rs ++ z) ≡ (h ++ r) ++ (end-to-end rs ++ z) = simp append-assoc in
+    rw e₁ (ap (λ (x : List (List ℕ)). r ∷ x) (rw e₂ (records-end-to-end (h ++ r) z (at + L) (length-append h r ∙ omega arith) m)))

@@ -3,10 +3,10 @@ use mathlib.Core.Path.{_≡_, sym, ap, _∙_}
 use mathlib.Core.List.{List, [], _∷_, _++_, append-assoc, append-nil}
 use Prim.Native.Nat.{ℕ, suc, _+_, _≤_, _<_}
 use native.Mathlib.Omega.{arith}
-use native.Mathlib.Nat.{add-zero, add-assoc}
+use native.Mathlib.Nat.{add-zero, zero-add, add-assoc}
 use native.Mathlib.Numerals.{add-one}
 use lib.ListN.{length, take, drop, set, length-append, length-drop, take-append-drop}
-use lib.Seq.{set-split, length-take-le, take-at, drop-at, take-append-le, take-take, drop-drop}
+use lib.Seq.{set-split, drop-length, length-take-le, take-at, drop-at, take-append-le, take-take, drop-drop}
 use Rattle.records.specs.Parts.{part, splice}
 use Rattle.records.proofs.Parts.{drop-take}
 
@@ -56,6 +56,11 @@ unfolding splice
 splice-same s at n h =
     let m : length (part s at n) ≡ n = length-take-le n (drop at s) (rw length-drop (omega arith)) in
     rw (m, ← drop-drop n at s, append-assoc, take-append-drop, take-append-drop)
+
+-- a whole list that is replaced
+pub splice-all : (s ys : List ℕ) → length ys ≡ length s → splice s 0 ys ≡ ys
+unfolding splice
+splice-all s ys e = rw (zero-add, e, drop-length) (append-nil ys)
 
 pub splice-one : (s : List ℕ) (at x : ℕ) → at < length s → set s at x ≡ splice s at (x ∷ [])
 unfolding splice

@@ -1,4 +1,4 @@
--- One turn of each loop that reads or writes numbers in bytes, or moves bytes, on plain values. Assumes nothing.
+-- One turn of each loop that reads or writes numbers in bytes, or moves or copies bytes, on plain values. Assumes nothing.
 use mathlib.Core.Path.{_≡_, sym, ap, _∙_}
 use mathlib.Core.Bool.{true}
 use mathlib.Core.List.{List, [], _∷_, _++_}
@@ -7,7 +7,7 @@ use native.Mathlib.Omega.{arith}
 use native.Mathlib.Nat.{pow-suc, pow-le-pow-right}
 use native.Mathlib.Numerals.{add-one}
 use lib.ListN.{length, take, drop, getD, set, length-drop}
-use lib.Seq.{drop-cons, drop-drop, getD-take, length-take-le, take-suc-set, append-snoc}
+use lib.Seq.{drop-cons, drop-drop, getD-take, length-take-le, take-suc, take-suc-set, append-snoc}
 use lib.Dec.{leb}
 use borrow.Author.Tests.{leb-true}
 use Rattle.integers.proofs.Tests.{both-true}
@@ -68,6 +68,19 @@ move-more s p q n h l =
     sym (getD-take (p + 1) t p 0 (omega arith)) ∙ ap (λ (z : List ℕ). getD z p 0) (take-splice s (q + 1) y (p + 1) (omega arith) (omega arith)) ∙ getD-take (p + 1) s p 0 (omega arith) in
     let e : part s p (n + 1) ≡ x ∷ y = rw (add-one n) (part-suc s p n (omega arith)) in
     rw (v, e) (splice-one t q x (omega arith) ∙ splice-before s q (x ∷ []) y (omega arith))
+
+-- ---- bytes, copied from another list
+
+-- the first i bytes of s stand in t from index at on, and the next is copied
+pub copy-more : (s t : List ℕ) (at i : ℕ) → i < length s → at + i < length t → set (splice t at (take i s)) (at + i) (getD s i 0) ≡ splice t at (take (i + 1) s)
+copy-more s t at i h k =
+    let x = getD s i 0 in
+    let v = splice t at (take i s) in
+    let m : length (take i s) ≡ i = length-take-le i s (omega arith) in
+    rw (add-one, take-suc s i 0 h)
+    (splice-one v (at + i) x (omega (arith, length-splice t at (take i s) (omega arith)))
+    ∙ ap (λ (n : ℕ). splice v (at + n) (x ∷ [])) (sym m)
+    ∙ splice-append t at (take i s) (x ∷ []) (omega arith))
 
 -- ---- fields, one after the other
 

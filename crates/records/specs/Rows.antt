@@ -9,6 +9,6 @@ records L s at zero = []
 records L s at (suc n) = part s at L ∷ records L s (at + L) n
 
 -- the bytes of records, one after the other
-abbrev pub joined : List (List ℕ) → List ℕ
-joined [] = []
-joined (r ∷ rs) = r ++ joined rs
+abbrev pub end-to-end : List (List ℕ) → List ℕ
+end-to-end [] = []
+end-to-end (r ∷ rs) = r ++ end-to-end rs

@@ -15,7 +15,7 @@ use Rattle.outline.specs.Walk.{vertex}
 use Rattle.outline.specs.Closing.{closes}
 use Rattle.outline.specs.Tracing.{bounds-at, drawn, traced}
 use Rattle.records.specs.Numbers.{signed, twos}
-use Rattle.records.specs.Rows.{joined}
+use Rattle.records.specs.Rows.{end-to-end}
 use Rattle.sheet.specs.Checking.{stated, framed, judged, surveyed, inspected, parsed}
 use Rattle.records.specs.Text.{ascii}
 use Rattle.sheet.proofs.Computed.{plot, seven, thirteenth}
@@ -37,7 +37,7 @@ sheets : List (List ℕ)
 sheets =
     (1 ∷ 2 ∷ encoded base-layout (seven 0) ++ (encoded base-layout (thirteenth 0) ++ trailer 24 2)) ∷
     (1 ∷ 2 ∷ encoded fee-layout (seven 12) ++ (encoded fee-layout (thirteenth 301) ++ trailer 26 2)) ∷ (encoded fee-layout uneven ++ trailer 26 1) ∷
-    (joined (map (λ v. encoded fee-layout (whole v)) (1 ∷ 2 ∷ 3 ∷ 4 ∷ 5 ∷ [])) ++ trailer 26 5) ∷
+    (end-to-end (map (λ v. encoded fee-layout (whole v)) (1 ∷ 2 ∷ 3 ∷ 4 ∷ 5 ∷ [])) ++ trailer 26 5) ∷
     trailer 24 0 ∷ trailer 26 0 ∷ [] ∷ (trailer 26 0 ++ (0 ∷ [])) ∷ (encoded fee-layout (thirteenth 301) ++ (encoded fee-layout (seven 12) ++ trailer 26 2)) ∷ []
 
 texts : List (List ℕ)
@@ -45,7 +45,7 @@ texts =
     ascii "plot i j n0 n1 n2 n3 n4 n5 n6 n7 cells fee\n7 2 -1 3 0 1 0 3 0 1 0 8 0\n11407 0 0 0 1 0 1 0 1 0 1 5 0\nplots 2 cells 13\n" ∷
     ascii "plot i j n0 n1 n2 n3 n4 n5 n6 n7 cells fee\n7 2 -1 3 0 1 0 3 0 1 0 8 12\n11407 0 0 0 1 0 1 0 1 0 1 5 301\nplots 2 cells 13\n" ∷
     ascii "plot i j n0 n1 n2 n3 n4 n5 n6 n7 cells fee\n70001 -4 -5 3 1 14 2 5 4 6 7 174 65535\nplots 1 cells 174\n" ∷
-    joined (
+    end-to-end (
     ascii "plot i j n0 n1 n2 n3 n4 n5 n6 n7 cells fee\n" ∷
     ascii "1 -16000 -16000 32000 0 32000 0 32000 0 32000 0 1024064001 9\n" ∷
     ascii "2 -16000 -16000 32000 0 32000 0 32000 0 32000 0 1024064001 10\n" ∷

@@ -6,7 +6,7 @@ use Rattle.octagon.specs.Outcome.{Outcome, accepted, refused, then}
 use Rattle.cell_count.specs.Area.{cell-count}
 use Rattle.outline.specs.declared.Outline.{Outline}
 use Rattle.outline.specs.Tracing.{traced}
-use Rattle.records.specs.Rows.{joined}
+use Rattle.records.specs.Rows.{end-to-end}
 use Rattle.sheet.specs.declared.Record.{Record}
 use Rattle.sheet.specs.Layout.{base-length}
 use Rattle.sheet.specs.Trailer.{trailer-length}
@@ -28,7 +28,7 @@ unfoldable pub row-of : Record → List ℕ
 row-of r = row-line r (cell-number (r .outline))
 
 abbrev pub rows-of : List Record → List ℕ
-rows-of rs = joined (map row-of rs)
+rows-of rs = end-to-end (map row-of rs)
 
 -- the sum of the cells of plots: ground in two plots counts twice
 abbrev pub total-cells : List Record → ℕ

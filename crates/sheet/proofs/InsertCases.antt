@@ -24,7 +24,7 @@ use Rattle.sheet.specs.Sheets.{sheet-limit, Sheet, sheet-of, sheet-lengt
 use Rattle.sheet.specs.Checking.{parsed, checked}
 use Rattle.sheet.specs.Cases.{stated-plots}
 use Rattle.sheet.specs.Writing.{written-length, with-plot, is-bad-number, has-no-room, admitted, inserted, grown-length}
-use Rattle.sheet.specs.WritingCases.{GoodOutline, GoodSheet, InsertCase, plot-open, plot-off, sheet-refused, number-bad, sheet-full, inserts}
+use Rattle.sheet.specs.WritingCases.{Exceeds, GoodOutline, GoodSheet, InsertCase, plot-open, plot-off, sheet-refused, number-bad, sheet-full, inserts}
 use Rattle.sheet.proofs.Order.{present-test, absent-test}
 use Rattle.sheet.proofs.Checks.{inspected-good, parsed-sheet, checked-refused, checked-count, checked-counted}
 use Rattle.sheet.proofs.CheckCases.{check-exactly}
@@ -51,10 +51,11 @@ number-good v rs = none-holds (eqb v 0) (present v rs) (eqb-false v 0) (absent-t
 not-above : (m n : ℕ) → ltb m n ≡ false → ¬ (m < n)
 not-above m n e h = omega (arith, ltb-false m n e)
 
-room-told : (s : List ℕ) (n : ℕ) → has-no-room s n ≡ true → (length s < n) ⊎ (sheet-limit < n)
+-- the length n exceeds the buffer or the limit, or it does not
+pub room-told : (s : List ℕ) (n : ℕ) → has-no-room s n ≡ true → Exceeds s n
 room-told s n = one-holds (ltb (length s) n) (ltb sheet-limit n) (ltb-true (length s) n) (ltb-true sheet-limit n)
 
-room-good : (s : List ℕ) (n : ℕ) → has-no-room s n ≡ false → ¬ ((length s < n) ⊎ (sheet-limit < n))
+pub room-good : (s : List ℕ) (n : ℕ) → has-no-room s n ≡ false → ¬ (Exceeds s n)
 room-good s n = none-holds (ltb (length s) n) (ltb sheet-limit n) (not-above (length s) n) (not-above sheet-limit n)
 
 -- ---- the outline

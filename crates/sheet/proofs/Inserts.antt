@@ -27,6 +27,10 @@ use Rattle.sheet.proofs.Plots.{length-plots}
 use Rattle.sheet.proofs.Frames.{past}
 use Rattle.sheet.proofs.Checks.{Good}
 
+-- a sheet of n bytes that has room
+pub room-kept : (s : List ℕ) (n : ℕ) → has-no-room s n ≡ false → (n ≤ length s) × (n ≤ sheet-limit)
+room-kept s n e = let b = or-false (ltb (length s) n) (ltb sheet-limit n) e in (ltb-false (length s) n (b .0), ltb-false sheet-limit n (b .1))
+
 -- ---- which records are admitted
 
 module _ (s : List ℕ) (r : Record) (z : Sheet) where
@@ -59,13 +63,13 @@ module _ (s : List ℕ) (r : Record) (z : Sheet) where
       let p = past (is-bad-number (r .number) (z .plots)) bad-number _ y e in
       let q = past (has-no-room s next-length) no-room (accepted (with-plot r z)) y (p .1) in
       let a = or-false (eqb (r .number) 0) (present (r .number) (z .plots)) (p .0) in
-      let b = or-false (ltb (length s) next-length) (ltb sheet-limit next-length) (q .0) in
+      let b = room-kept s next-length (q .0) in
       let n : r .number ≡ 0 → ⊥ = eqb-false (r .number) 0 (a .0) in (
         record {
           above = omega arith;
           new = a .1;
-          within = ltb-false (length s) next-length (b .0);
-          short = ltb-false sheet-limit next-length (b .1);
+          within = b .0;
+          short = b .1;
         },
         sym (accepted-same (q .1)),
       )

@@ -1,25 +1,27 @@
--- A buffer with a sheet written at its start: it says what was written, the heading stays where it is the buffer's own, and so does what
--- follows the sheet. Assumes nothing.
-use mathlib.Core.Path.{_≡_, ap, _∙_}
-use mathlib.Core.List.{List, _++_}
-use Prim.Native.Nat.{ℕ, _+_, _-_, _≤_}
+-- A buffer with a sheet written at its start, at once or part by part: it says what was written, the heading stays where it is the buffer's
+-- own, and so does what follows the sheet. Assumes nothing.
+use mathlib.Core.Path.{_≡_, sym, ap, _∙_}
+use mathlib.Core.List.{List, _++_, append-assoc}
+use Prim.Native.Nat.{ℕ, _+_, _-_, _*_, _≤_}
 use native.Mathlib.Omega.{arith}
 use native.Mathlib.Nat.{zero-add}
 use lib.ListN.{length, take, drop, length-append, length-drop}
 use lib.Seq.{drop-at, length-take-le}
 use Rattle.octagon.specs.Outcome.{accepted}
 use Rattle.records.specs.Parts.{part, splice}
+use Rattle.records.proofs.Splices.{splice-append}
 use Rattle.sheet.specs.declared.Record.{Record}
 use Rattle.sheet.specs.Layout.{record-length, layout-of, Fits}
-use Rattle.sheet.specs.Trailer.{trailer-length}
+use Rattle.sheet.specs.Trailer.{trailer-length, trailer}
 use Rattle.sheet.specs.Bytes.{TrailerOf}
 use Rattle.sheet.specs.Order.{All, Ascending}
-use Rattle.sheet.specs.Sheets.{sheet-limit, Sheet, records-bytes, sheet-bytes, sheet-length}
+use Rattle.sheet.specs.Sheets.{sheet-limit, Sheet, rows-bytes, records-bytes, sheet-bytes, sheet-length}
 use Rattle.sheet.specs.Checking.{parsed}
 use Rattle.sheet.specs.Cases.{HasOctagon}
 use Rattle.sheet.specs.Writing.{written-over}
 use Rattle.sheet.proofs.Layouts.{record-is-length}
-use Rattle.sheet.proofs.WrittenRows.{length-records-bytes}
+use Rattle.sheet.proofs.TrailerBytes.{length-trailer}
+use Rattle.sheet.proofs.WrittenRows.{length-rows, length-records-bytes}
 use Rattle.sheet.proofs.Sheets.{heading-again, parsed-again, trailer-of-again}
 
 -- how many bytes a sheet is
@@ -36,6 +38,25 @@ over-records s h rs k =
     let b = records-bytes record-length rs in
     let e : length (take h s ++ b) ≡ h + length b = length-append (take h s) b ∙ omega (arith, length-take-le h s k) in
     rw (zero-add, e)
+
+-- a heading, records and their trailer, written one after the other
+pub over-in-turn : (s h : List ℕ) (rs : List Record) (at n : ℕ) → length h ≡ at → length rs ≡ n → at + record-length * n + trailer-length ≤ length s
+    → splice (splice (splice s 0 h) at (rows-bytes record-length rs)) (at + record-length * n) (trailer record-length n)
+    ≡ written-over s (record { heading = h; plots = rs })
+unfolding written-over sheet-bytes records-bytes
+over-in-turn s h rs at n e f l =
+    let b = rows-bytes record-length rs in
+    let m : length b ≡ record-length * n = length-rows record-length record-is-length rs ∙ ap (λ (k : ℕ). record-length * k) f in
+    let p₁ : at ≡ 0 + length h = omega arith in
+    let p₂ : at + record-length * n ≡ 0 + length (h ++ b) = omega (arith, length-append h b) in
+    let x = splice-append s 0 h b (omega arith) in
+    let y = splice-append s 0 (h ++ b) (trailer record-length n) (omega (arith, length-append h b, length-trailer record-length n)) in
+    ap (λ (k : ℕ). splice (splice (splice s 0 h) k b) (at + record-length * n) (trailer record-length n)) p₁
+    ∙ ap (λ (v : List ℕ). splice v (at + record-length * n) (trailer record-length n)) x
+    ∙ ap (λ (k : ℕ). splice (splice s 0 (h ++ b)) k (trailer record-length n)) p₂
+    ∙ y
+    ∙ ap (splice s 0) (append-assoc h b (trailer record-length n))
+    ∙ ap (λ (k : ℕ). splice s 0 (h ++ (b ++ trailer record-length k))) (sym f)
 
 -- the buffer, as a sheet and what follows it
 module _ (s : List ℕ) (z : Sheet) where

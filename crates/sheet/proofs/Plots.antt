@@ -6,12 +6,12 @@ use mathlib.Core.List.{List, [], _∷_, _++_, map}
 use Prim.Native.Nat.{ℕ, zero, suc, _+_, _-_, _*_, _/_, _^_, _≤_, _<_}
 use native.Mathlib.Omega.{arith}
 use native.Mathlib.Nat.{mul-zero, mul-suc, add-zero, sub-zero, suc-sub-suc, pow-le-pow-right}
-use lib.ListN.{length, take, drop, getD, set, length-map, length-set}
+use lib.ListN.{length, take, drop, getD, length-map}
 use lib.Seq.{take-take, drop-drop}
 use lib.Signed.{mag}
 use borrow.Author.Tests.{lt-ltb, le-ltb, eq-eqb, ne-eqb}
 use Rattle.octagon.specs.Outcome.{accepted}
-use Rattle.records.specs.Numbers.{AreBytes, signed, twos, total-width, narrow, packed, unpacked}
+use Rattle.records.specs.Numbers.{AreBytes, signed, total-width, narrow, packed, unpacked}
 use Rattle.records.specs.Parts.{part}
 use Rattle.records.specs.Rows.{records}
 use Rattle.records.proofs.Parts.{drop-take}
@@ -19,11 +19,11 @@ use Rattle.records.proofs.Rows.{length-records, records-more}
 use Rattle.records.proofs.Fields.{length-unpacked}
 use Rattle.records.proofs.Steps.{total-width-more}
 use Rattle.sheet.specs.declared.Record.{Record}
-use Rattle.sheet.specs.Layout.{field-count, number-width, fee-width, record-length, layout-of, values, record-from, encoded, decoded, Fits, Sized}
+use Rattle.sheet.specs.Layout.{field-count, number-width, fee-width, record-length, layout-of, values, record-from, encoded, decoded, Fits, Sized, Resizes}
 use Rattle.sheet.specs.Order.{nth, All, none, more, Ascending, next, present, rank, put-in-order}
 use Rattle.sheet.specs.Sheets.{plots-from}
 use Rattle.sheet.specs.Cases.{HasOctagon}
-use Rattle.sheet.proofs.Layouts.{every-field, all-narrow, narrow-fields, narrow-fee, within-length, decoded-at, field-below, copied}
+use Rattle.sheet.proofs.Layouts.{every-field, all-narrow, narrow-fields, narrow-fee, within-length, decoded-at, field-below}
 use Rattle.sheet.proofs.Order.{put-in-order-parts}
 use Rattle.sheet.proofs.Outlines.{accepted-fits}
 
@@ -51,38 +51,33 @@ module _ (L : ℕ) (s : List ℕ) (at : ℕ) (ws : List ℕ) (e : ws ≡ layout-
     pub fee-small : AreBytes s → getD v 11 0 < 256 ^ fee-width
     fee-small b = rw (f, e) (field-small L s at 11 fee-width b (omega arith) (narrow-fee L))
 
-    read-length : length v ≡ field-count
-    read-length = ap length f ∙ length-unpacked ws (drop at s) ∙ ap length e ∙ every-field L
-
     pub read-there : record-from ws v ≡ decoded (layout-of L) (part s at L)
     read-there = rw (f, e) (sym (decoded-at (layout-of L) s at L (within-length L)))
 
     -- its numbers as they are written in the layout us of records of M bytes, which it fits
     module _ (M : ℕ) (us : List ℕ) (g : us ≡ layout-of M) (fits : Fits (layout-of M) (decoded (layout-of L) (part s at L))) where
-      pub resized-i : AreBytes s → (getD ws 1 0 ≤ 4) × (getD v 1 0 < 256 ^ getD ws 1 0) × (getD us 1 0 ≤ 4) × (mag (signed (getD ws 1 0) (getD v 1 0)) < 256 ^ getD us 1 0 / 2)
-      resized-i b =
+      pub resizes : AreBytes s → Resizes ws us v
+      resizes b =
           let q = signs-fit b in
           let m : mag (signed (getD ws 1 0) (getD v 1 0)) < 256 ^ getD us 1 0 / 2 = rw g (rw (← read-there) at (fits .fits-i)) in
-          (q .0 .0, q .1 .0, rw g (narrow-fields M 1), m)
+          let n : mag (signed (getD ws 2 0) (getD v 2 0)) < 256 ^ getD us 2 0 / 2 = rw g (rw (← read-there) at (fits .fits-j)) in
+          record {
+            all-fields = ap length f ∙ length-unpacked ws (drop at s) ∙ ap length e ∙ every-field L;
+            i-resizes = (q .0 .0, q .1 .0, rw g (narrow-fields M 1), m);
+            j-resizes = (q .0 .1, q .1 .1, rw g (narrow-fields M 2), n);
+          }
 
-      pub resized-j : AreBytes s → (getD ws 2 0 ≤ 4) × (getD v 2 0 < 256 ^ getD ws 2 0) × (getD us 2 0 ≤ 4) × (mag (signed (getD ws 2 0) (getD v 2 0)) < 256 ^ getD us 2 0 / 2)
-      resized-j b =
-          let q = signs-fit b in
-          let m : mag (signed (getD ws 2 0) (getD v 2 0)) < 256 ^ getD us 2 0 / 2 = rw g (rw (← read-there) at (fits .fits-j)) in
-          (q .0 .1, q .1 .1, rw g (narrow-fields M 2), m)
+      module _ (w : List ℕ) (h : w ≡ values us (record-from ws v)) where
+        pub resized-there : packed us w ≡ encoded (layout-of M) (decoded (layout-of L) (part s at L))
+        unfolding encoded
+        resized-there =
+            ap (packed us) h
+            ∙ ap (λ (r : Record). packed us (values us r)) read-there
+            ∙ ap (λ (ts : List ℕ). packed ts (values ts (decoded (layout-of L) (part s at L)))) g
 
-      pub copied-there : (i j : ℕ) → i ≡ twos (getD us 1 0) (signed (getD ws 1 0) (getD v 1 0)) → j ≡ twos (getD us 2 0) (signed (getD ws 2 0) (getD v 2 0))
-          → packed us (set (set v 1 i) 2 j) ≡ encoded (layout-of M) (decoded (layout-of L) (part s at L))
-      unfolding encoded
-      copied-there i j p q =
-          rw (p, q) (ap (packed us) (copied ws us v read-length)
-          ∙ ap (λ (r : Record). packed us (values us r)) read-there
-          ∙ ap (λ (ts : List ℕ). packed ts (values ts (decoded (layout-of L) (part s at L)))) g)
-
-      -- they are as many as there are fields
-      pub copied-within : (i j to : ℕ) → to + M ≤ length s → (to + total-width us ≤ length s) × (length (set (set v 1 i) 2 j) ≡ length us)
-      copied-within i j to m =
-          (rw g (omega (arith, within-length M)), length-set (set v 1 i) 2 j ∙ length-set v 1 i ∙ read-length ∙ sym (ap length g ∙ every-field M))
+        -- they are as many as there are fields, and lie in a buffer u of which M bytes are free
+        pub resized-within : (u : List ℕ) (to : ℕ) → to + M ≤ length u → (to + total-width us ≤ length u) × (length w ≡ length us)
+        resized-within u to m = (rw g (omega (arith, within-length M)), ap length h ∙ sym (ap length g ∙ every-field M))
 
 -- ---- how many, and one by one
 

@@ -12,7 +12,7 @@ use Rattle.records.specs.Parts.{part, splice}
 use Rattle.records.specs.Rows.{records}
 use Rattle.records.proofs.Numbers.{drop-bytes, take-bytes}
 use Rattle.records.proofs.Splices.{length-splice, part-before, splice-append, splice-before, splice-same}
-use Rattle.records.proofs.Rows.{Each, none, more, length-joined, joined-append, records-joined, mul-more}
+use Rattle.records.proofs.Rows.{Each, none, more, length-end-to-end, end-to-end-append, records-end-to-end, mul-more}
 use Rattle.sheet.specs.declared.Record.{Record}
 use Rattle.sheet.specs.Layout.{IsRecordLength, layout-of, encoded, decoded, Fits}
 use Rattle.sheet.specs.Trailer.{trailer-length, trailer}
@@ -31,7 +31,7 @@ module _ (L : ℕ) (l : IsRecordLength L) where
   each-row (r ∷ rs) = more (length-row r) (each-row rs)
 
   pub length-rows : (rs : List Record) → length (rows-bytes L rs) ≡ L * length rs
-  length-rows rs = length-joined (each-row rs) ∙ ap (λ (n : ℕ). L * n) (length-map rs (encoded (layout-of L)))
+  length-rows rs = length-end-to-end (each-row rs) ∙ ap (λ (n : ℕ). L * n) (length-map rs (encoded (layout-of L)))
 
   pub length-records-bytes : (rs : List Record) → length (records-bytes L rs) ≡ L * length rs + trailer-length
   unfolding records-bytes
@@ -46,18 +46,21 @@ module _ (L : ℕ) (l : IsRecordLength L) where
   unfolding plots-from
   plots-again h d rs a =
       ap (λ (n : ℕ). map (decoded (layout-of L)) (records L (h ++ (rows-bytes L rs ++ d)) (length h) n)) (sym (length-map rs (encoded (layout-of L))))
-      ∙ ap (map (decoded (layout-of L))) (records-joined h d (length h) refl (each-row rs))
+      ∙ ap (map (decoded (layout-of L))) (records-end-to-end h d (length h) refl (each-row rs))
       ∙ all-again a
 
   -- records that keep their length keep their bytes
+  pub row-kept : (s : List ℕ) (at : ℕ) → AreBytes s → at + L ≤ length s → encoded (layout-of L) (decoded (layout-of L) (part s at L)) ≡ part s at L
+  row-kept s at b h =
+      let q : length (part s at L) ≡ L = length-take-le L (drop at s) (rw length-drop (omega arith)) in
+      encoded-decoded (layout-of L) (every-field L) (part s at L) (take-bytes L (drop at s) (drop-bytes at s b)) (q ∙ sym (takes-all L l))
+
   pub rows-kept : (s : List ℕ) (at n : ℕ) → AreBytes s → at + L * n ≤ length s → rows-bytes L (plots-from L s at n) ≡ part s at (L * n)
   unfolding plots-from
   rows-kept s at zero b h = rw mul-zero
   rows-kept s at (suc n) b h =
       let m : L * suc n ≡ L + L * n = omega (arith, mul-suc L n) in
-      let q : length (part s at L) ≡ L = length-take-le L (drop at s) (rw length-drop (omega arith)) in
-      let f = encoded-decoded (layout-of L) (every-field L) (part s at L) (take-bytes L (drop at s) (drop-bytes at s b)) (q ∙ sym (takes-all L l)) in
-      rw (f, rows-kept s (at + L) n b (omega arith), m, take-add, drop-drop)
+      rw (row-kept s at b (omega arith), rows-kept s (at + L) n b (omega arith), m, take-add, drop-drop)
 
   -- so room for one more after k of them is made by moving the n others up
   pub rows-moved : (M : ℕ) → M ≡ L → (s : List ℕ) (at k n : ℕ) → AreBytes s → at + L * k + L + L * n ≤ length s
@@ -70,6 +73,24 @@ module _ (L : ℕ) (l : IsRecordLength L) where
       let e = part-before s to v at (L * k) (omega arith) (omega arith) in
       rw (q, rows-kept s (at + L * k) n b (omega arith), rows-kept s at k b (omega arith))
       (sym (ap (splice (splice s to v) at) (sym e) ∙ splice-same (splice s to v) at (L * k) (omega (arith, length-splice s to v (omega arith)))))
+
+  -- one record, and others after it
+  written-more : (u : List ℕ) (o : ℕ) (r : Record) (rs : List Record) → o + L + L * length rs ≤ length u
+      → splice (splice u o (encoded (layout-of L) r)) (o + L) (rows-bytes L rs) ≡ splice u o (rows-bytes L (r ∷ rs))
+  written-more u o r rs h =
+      let x = encoded (layout-of L) r in
+      ap (λ (n : ℕ). splice (splice u o x) (o + n) (rows-bytes L rs)) (sym (length-row r)) ∙ splice-append u o x (rows-bytes L rs) (omega (arith, length-row r, length-rows rs))
+
+  -- one turn of writing records: of those that are to be written from index o of u on, r is written, in u′, and the others come after it; z is
+  -- what comes of it all
+  pub written-turn : (u u′ z : List ℕ) (o n : ℕ) (r : Record) (all rest : List Record) → all ≡ r ∷ rest → u′ ≡ splice u o (encoded (layout-of L) r) → length u ≡ n
+      → o + L * length all ≤ n → splice u o (rows-bytes L all) ≡ z → (length u′ ≡ n) × (o + L + L * length rest ≤ n) × (splice u′ (o + L) (rows-bytes L rest) ≡ z)
+  written-turn u u′ z o n r all rest e f l h g =
+      let m : L * length all ≡ L + L * length rest = ap (λ (rs : List Record). L * length rs) e ∙ omega (arith, mul-suc L (length rest)) in (
+        ap length f ∙ length-splice u o (encoded (layout-of L) r) (omega (arith, length-row r)) ∙ l,
+        omega arith,
+        rw f (written-more u o r rest (omega arith)) ∙ ap (λ (rs : List Record). splice u o (rows-bytes L rs)) (sym e) ∙ g,
+      )
 
   -- records that are read with M bytes each and moved up, the last first: in t those from index P on stand from index Q on, and the one
   -- before them, at p, comes to q
@@ -108,7 +129,7 @@ module _ (L : ℕ) (l : IsRecordLength L) where
       let p₃ : at + L * n ≡ at + length (b ++ v) = omega arith in
       let l : length (splice s (at + length b) v) ≡ length s = length-splice s (at + length b) v (omega (arith, length-rows ts)) in
       let c : rows-bytes L (rs ++ (r ∷ ts)) ≡ b ++ v =
-      rw (map-append (encoded (layout-of L)) rs (r ∷ ts)) (joined-append (map (encoded (layout-of L)) rs) (map (encoded (layout-of L)) (r ∷ ts)) ∙ sym (append-assoc u x v)) in
+      rw (map-append (encoded (layout-of L)) rs (r ∷ ts)) (end-to-end-append (map (encoded (layout-of L)) rs) (map (encoded (layout-of L)) (r ∷ ts)) ∙ sym (append-assoc u x v)) in
       let d : length (rs ++ (r ∷ ts)) ≡ n = length-append rs (r ∷ ts) ∙ omega arith in
       rw (
         p₁,

@@ -1,4 +1,4 @@
--- Document 01's number and values for each case of this crate's answers, a definition for each enum, and the refusal numbers by name.
+-- The documents' number and values for each case of this crate's answers, a definition for each enum, and the refusal numbers by name.
 -- Assumes nothing.
 use Prim.Native.Nat.{ℕ}
 use Rattle.octagon.specs.Outcome.{Outcome, accepted, refused}
@@ -35,7 +35,8 @@ abbrev pub length-outcome : Written → Outcome ℕ
 length-outcome (written.Length n) = accepted n
 length-outcome (written.Refused k) = refused k
 
--- the refusal numbers of this crate: the length; the trailer's marks; its distance; a plot number; no room; no such record
+-- the refusal numbers of this crate: the length; the trailer's marks; its distance; a plot number; no room; no such record; one plot number
+-- for two records
 abbrev pub bad-length : ℕ
 bad-length = 8
 
@@ -53,3 +54,6 @@ no-room = 12
 
 abbrev pub no-record : ℕ
 no-record = 13
+
+abbrev pub two-records : ℕ
+two-records = 18

@@ -1,8 +1,9 @@
 -- Layouts: the widths of a record's fields in bytes, the bytes of a record in a layout, and the record of such bytes. Assumes nothing.
-use Prim.Native.Nat.{ℕ, _+_, _/_, _^_, _<_}
+use Prim.Native.Nat.{ℕ, _+_, _/_, _^_, _≤_, _<_}
+use mathlib.Core.Path.{_≡_}
 use mathlib.Core.Bool.{Bool, cond, _||_}
 use mathlib.Core.List.{List, [], _∷_}
-use lib.ListN.{getD, replicate}
+use lib.ListN.{length, getD, replicate}
 use lib.Dec.{eqb}
 use lib.Signed.{mag}
 use Rattle.outline.specs.declared.Outline.{Outline}
@@ -105,3 +106,13 @@ pub record Fits (ws : List ℕ) (r : Record) : Type 0 where
 pub record Sized (r : Record) : Type 0 where
   pub number-fits : r .number < 256 ^ number-width
   pub fee-fits : r .«fee_row» < 256 ^ fee-width
+
+-- the signed number that n is in w bytes fits u bytes, and both are at most 4
+abbrev pub Resizable : ℕ → ℕ → ℕ → Type 0
+Resizable w u n = (w ≤ 4) × (n < 256 ^ w) × (u ≤ 4) × (mag (signed w n) < 256 ^ u / 2)
+
+-- v are the numbers in the fields of the layout ws, of which i and j fit those of the layout us
+pub record Resizes (ws us v : List ℕ) : Type 0 where
+  pub all-fields : length v ≡ field-count
+  pub i-resizes : Resizable (getD ws 1 0) (getD us 1 0) (getD v 1 0)
+  pub j-resizes : Resizable (getD ws 2 0) (getD us 2 0) (getD v 2 0)

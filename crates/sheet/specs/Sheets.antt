@@ -2,7 +2,7 @@
 use Prim.Native.Nat.{ℕ, _+_, _-_, _*_}
 use mathlib.Core.List.{List, _++_, map}
 use lib.ListN.{length, take}
-use Rattle.records.specs.Rows.{records, joined}
+use Rattle.records.specs.Rows.{records, end-to-end}
 use Rattle.sheet.specs.declared.Record.{Record}
 use Rattle.sheet.specs.declared.trailer.Trailer.{Trailer}
 use Rattle.sheet.specs.Layout.{layout-of, encoded, decoded}
@@ -38,7 +38,7 @@ sheet-of s len z = record {
 
 -- records of L bytes each, one after the other
 abbrev pub rows-bytes : ℕ → List Record → List ℕ
-rows-bytes L rs = joined (map (encoded (layout-of L)) rs)
+rows-bytes L rs = end-to-end (map (encoded (layout-of L)) rs)
 
 -- and their trailer
 unfoldable pub records-bytes : ℕ → List Record → List ℕ

@@ -27,6 +27,14 @@ written-over s z = splice s 0 (sheet-bytes record-length z)
 abbrev pub written-length : Sheet → ℕ
 written-length z = sheet-length record-length z
 
+-- the length n exceeds the buffer or the limit
+abbrev pub has-no-room : List ℕ → ℕ → Bool
+has-no-room s n = ltb (length s) n || ltb sheet-limit n
+
+-- a sheet that is to be written in s: 12 by the new length
+abbrev pub roomed : List ℕ → Sheet → Outcome Sheet
+roomed s z = cond (has-no-room s (written-length z)) (refused no-room) (accepted z)
+
 -- ---- start a sheet
 
 -- the length of an empty sheet after h heading bytes: 8 when it exceeds the limit, 12 when it exceeds the buffer
@@ -60,15 +68,9 @@ with-plot r z = record { heading = z .heading; plots = put-in-order r (z .plots)
 abbrev pub is-bad-number : ℕ → List Record → Bool
 is-bad-number v rs = eqb v 0 || present v rs
 
--- the length n exceeds the buffer or the limit
-abbrev pub has-no-room : List ℕ → ℕ → Bool
-has-no-room s n = ltb (length s) n || ltb sheet-limit n
-
 -- the sheet z with r, where r may go in: 11, then 12 by the new length
 unfoldable pub admitted : List ℕ → Record → Sheet → Outcome Sheet
-admitted s r z =
-    cond (is-bad-number (r .number) (z .plots)) (refused bad-number)
-    (cond (has-no-room s (sheet-length record-length (with-plot r z))) (refused no-room) (accepted (with-plot r z)))
+admitted s r z = cond (is-bad-number (r .number) (z .plots)) (refused bad-number) (roomed s (with-plot r z))
 
 -- the sheet that an insert makes: the outline's refusals, the check's, 11 and 12
 unfoldable pub insertion : List ℕ → ℕ → Record → Outcome Sheet

@@ -19,6 +19,10 @@ use Rattle.sheet.specs.Sheets.{sheet-limit}
 use Rattle.sheet.specs.Cases.{stated-plots, CheckCase}
 use Rattle.sheet.specs.Writing.{grown-length}
 
+-- the length n "exceeds the buffer or 65,536"
+abbrev pub Exceeds : List ℕ → ℕ → Type 0
+Exceeds s n = (length s < n) ⊎ (sheet-limit < n)
+
 -- ---- start a sheet
 
 -- "8 when h+16 exceeds 65,536. 12 when it exceeds the buffer. .. It answers h+16."
@@ -43,9 +47,9 @@ pub record GoodSheet (s : List ℕ) (len : ℕ) (r : Record) (c : ℕ) : Type 0 
 abbrev pub BadNumber : List ℕ → ℕ → Record → Type 0
 BadNumber s len r = (r .number ≡ 0) ⊎ Present (r .number) (stated-plots s len)
 
--- the new length "exceeds the buffer or 65,536" ("Insert's 12 now goes by the new length")
+-- "Insert's 12 now goes by the new length"
 abbrev pub NoRoom : List ℕ → ℕ → ℕ → Type 0
-NoRoom s len c = (length s < grown-length s len c) ⊎ (sheet-limit < grown-length s len c)
+NoRoom s len c = Exceeds s (grown-length s len c)
 
 -- "The outline's 3 and 2, the check's refusals, 11 when the number is 0 or present, 12 ..
 -- .. the answer is the new length."

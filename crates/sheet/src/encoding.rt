@@ -3,7 +3,8 @@ ghost use mathlib.Core.Path.{_≡_};
 ghost use Prim.Native.Nat.{_+_, _^_, _≤_, _<_};
 ghost use lib.ListN.{length, getD};
 ghost use Rattle.records.specs.Parts.{part, splice};
-ghost use Rattle.sheet.specs.Layout.{IsRecordLength, «is-record-length», «layout-of», «outline-from», decoded, encoded, Fits};
+ghost use Rattle.sheet.specs.Layout.{IsRecordLength, «is-record-length», «layout-of», values, «outline-from», «record-from», decoded, encoded, Fits, Resizes};
+ghost use Rattle.sheet.specs.Merging.{«same-record»};
 use crate::BASE_RECORD;
 use crate::FEE_RECORD;
 use crate::Record;
@@ -14,6 +15,7 @@ use crate::signed::resize;
 use crate::signed::to_signed;
 use crate::signed::to_twos;
 use outline::Outline;
+use outline::comparing::same_outline;
 
 // Whether records may be so long.
 pub fn is_record_length(each: usize) -> bool
@@ -35,10 +37,10 @@ fn layout_of(each: usize) -> [usize; FIELDS]
     requires { ⌜ IsRecordLength each ⌝ }
     ensures { λ r. ⌜ r ≡ «layout-of» each ⌝ }
 {
-    if each == BASE_RECORD {
-        BASE_LAYOUT
-    } else {
+    if each == FEE_RECORD {
         FEE_LAYOUT
+    } else {
+        BASE_LAYOUT
     }
 }
 
@@ -127,6 +129,17 @@ pub fn put_record(s: &mut [u8], at: usize, each: usize, r: Record)
     pack(s, at, &widths, &v);
 }
 
+// Turns the numbers in a record's fields from those of one layout into those of another: i and j may have other widths.
+fn resize_start(v: &mut [u32; FIELDS], old: &[usize; FIELDS], new: &[usize; FIELDS])
+    requires { ⌜ Resizes (now old) (now new) (now v) ⌝ }
+    ensures { λ _. ⌜ now (v .exit) ≡ values (now (new .entry)) («record-from» (now (old .entry)) (now (v .entry))) ⌝ }
+{
+    let i = resize(v[1], old[1], new[1]);
+    let j = resize(v[2], old[2], new[2]);
+    v[1] = i;
+    v[2] = j;
+}
+
 // Writes the record of `each` bytes at `from` into the `wide` bytes at `to`, field by field. `recode` alone calls it, on every record,
 // so that it is compiled into that loop.
 pub fn copy_record(s: &mut [u8], from: usize, each: usize, to: usize, wide: usize)
@@ -138,9 +151,36 @@ pub fn copy_record(s: &mut [u8], from: usize, each: usize, to: usize, wide: usiz
     let new = layout_of(wide);
     let mut v = [0u32; FIELDS];
     unpack(s, from, &old, &mut v);
-    let i = resize(v[1], old[1], new[1]);
-    let j = resize(v[2], old[2], new[2]);
-    v[1] = i;
-    v[2] = j;
+    resize_start(&mut v, &old, &new);
     pack(s, to, &new, &v);
+}
+
+// The same from one buffer into another. `put_row` alone calls it, so that it is compiled into that function.
+pub fn transfer_record(s: &[u8], from: usize, each: usize, u: &mut [u8], to: usize, wide: usize)
+    requires { ⌜ (from + each ≤ length (now s)) × (to + wide ≤ length (now u)) ⌝ }
+    requires { ⌜ IsRecordLength each × IsRecordLength wide × Fits («layout-of» wide) (decoded («layout-of» each) (part (now s) from each)) ⌝ }
+    ensures { λ _. ⌜ now (u .exit) ≡ splice (now (u .entry)) to (encoded («layout-of» wide) (decoded («layout-of» each) (part (now (s .entry)) from each))) ⌝ }
+{
+    let old = layout_of(each);
+    let new = layout_of(wide);
+    let mut v = [0u32; FIELDS];
+    unpack(s, from, &old, &mut v);
+    resize_start(&mut v, &old, &new);
+    pack(u, to, &new, &v);
+}
+
+// Whether the record of `each` bytes at `at` in s and that of `wide` bytes at `to` in t have the same number, outline and fee row.
+pub fn are_same(s: &[u8], at: usize, each: usize, t: &[u8], to: usize, wide: usize) -> bool
+    requires { ⌜ (at + each ≤ length (now s)) × IsRecordLength each × (to + wide ≤ length (now t)) × IsRecordLength wide ⌝ }
+    ensures { λ r. ⌜ r ≡ «same-record» (decoded («layout-of» each) (part (now (s .entry)) at each)) (decoded («layout-of» wide) (part (now (t .entry)) to wide)) ⌝ }
+{
+    let old = layout_of(each);
+    let new = layout_of(wide);
+    let mut v = [0u32; FIELDS];
+    let mut w = [0u32; FIELDS];
+    unpack(s, at, &old, &mut v);
+    unpack(t, to, &new, &mut w);
+    let o = outline_of(&v, &old);
+    let p = outline_of(&w, &new);
+    (v[0] == w[0]) & same_outline(o, p) & (v[11] == w[11])
 }

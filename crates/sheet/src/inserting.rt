@@ -10,7 +10,7 @@ ghost use Rattle.sheet.specs.Trailer.{«trailer-length»};
 ghost use Rattle.sheet.specs.Order.{All, «put-in-order»};
 ghost use Rattle.sheet.specs.Sheets.{«sheet-limit», «plots-from», «records-bytes», «sheet-length», «sheet-of»};
 ghost use Rattle.sheet.specs.Checking.{inspected, parsed};
-ghost use Rattle.sheet.specs.Writing.{«written-over», «written-length», admitted, «with-plot»};
+ghost use Rattle.sheet.specs.Writing.{«written-over», «written-length», «has-no-room», admitted, «with-plot»};
 use crate::BAD_NUMBER;
 use crate::LIMIT;
 use crate::NO_ROOM;
@@ -27,6 +27,13 @@ use crate::trailer::Framed;
 use crate::trailer::Trailer;
 use crate::trailer::put_trailer;
 
+// Whether a sheet of n bytes has no room: they exceed the buffer or the limit.
+pub fn has_no_room(sheet: &[u8], n: usize) -> bool
+    ensures { λ r. ⌜ r ≡ «has-no-room» (now (sheet .entry)) n ⌝ }
+{
+    (sheet.len() < n) | (LIMIT < n)
+}
+
 // The length that a sheet with the trailer z has with the record r. Refuses the number 0 or one that is there, then a sheet that has
 // no room.
 fn admit(sheet: &[u8], len: usize, z: Trailer, r: Record) -> Written
@@ -40,7 +47,7 @@ fn admit(sheet: &[u8], len: usize, z: Trailer, r: Record) -> Written
         return Written::Refused(BAD_NUMBER);
     }
     let next = first + RECORD * (count + 1) + TRAILER;
-    if (sheet.len() < next) | (LIMIT < next) {
+    if has_no_room(sheet, next) {
         return Written::Refused(NO_ROOM);
     }
     Written::Length(next)

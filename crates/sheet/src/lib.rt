@@ -3,18 +3,23 @@
 // specs/Sheets.antt has what a sheet says and its bytes, specs/Order.antt the order of its records, specs/Layout.antt the bytes of a
 // record and specs/Trailer.antt those of a trailer, specs/Bytes.antt the place of each field; specs/Checking.antt what `check`, `fetch`
 // and `read` answer, specs/Cases.antt when each of these answers is given; specs/Writing.antt what `start` and `insert` answer and
-// leave, specs/WritingCases.antt when each of their answers is given.
+// leave, specs/WritingCases.antt when each of their answers is given; specs/Merging.antt the records of two sheets together,
+// specs/Joining.antt what `join` answers and leaves, specs/JoiningCases.antt when each of its answers is given.
 ghost use mathlib.Core.Path.{_≡_};
 ghost use Rattle.sheet.specs.Answers.{«count-outcome», «record-outcome», «length-outcome»};
 ghost use Rattle.sheet.specs.Checking.{checked, fetched, read as «read-of»};
 ghost use Rattle.sheet.specs.Writing.{started, «after-start», inserted, «after-insert»};
+ghost use Rattle.sheet.specs.Joining.{joined, «after-join»};
 use octagon::Answer;
 use outline::Outline;
 use trailer::Framed;
 
 mod checking;
+mod copying;
 mod encoding;
 mod inserting;
+mod joining;
+mod merge;
 mod numbers;
 mod rows;
 mod signed;
@@ -57,7 +62,7 @@ pub const FEE_RECORD: usize = 26;
 
 pub const RECORD: usize = FEE_RECORD;
 
-// The refusal numbers of document 01 that this crate adds.
+// The refusal numbers of documents 01 and 02 that this crate adds.
 pub const BAD_LENGTH: u32 = 8;
 
 pub const BAD_TRAILER: u32 = 9;
@@ -69,6 +74,8 @@ pub const BAD_NUMBER: u32 = 11;
 pub const NO_ROOM: u32 = 12;
 
 pub const NO_RECORD: u32 = 13;
+
+pub const TWO_RECORDS: u32 = 18;
 
 // How many records the sheet in the first `len` bytes has. Refuses a wrong length, wrong marks in the trailer, a wrong distance,
 // and then for each record in order a wrong number and the refusals of its outline.
@@ -139,5 +146,24 @@ pub fn insert(sheet: &mut [u8], len: usize, r: Record) -> Written
     match outline::to_octagon(o) {
         Answer::Refused(e) => Written::Refused(e),
         Answer::Octagon(_) => inserting::insert_fitting(sheet, len, r),
+    }
+}
+
+// Writes the records of two sheets, those in the first `first_len` bytes of `first` and the first `second_len` of `second`, by rising number
+// into `third`, with RECORD bytes each, under the first sheet's heading, and answers the new length. The refusals of the first sheet's check,
+// then of the second's, then one plot number for two differing records, then a sheet that has no room.
+pub fn join(
+    first: &[u8],
+    first_len: usize,
+    second: &[u8],
+    second_len: usize,
+    third: &mut [u8],
+) -> Written
+    ensures { λ r. ⌜ («length-outcome» r ≡ joined (now (first .entry)) «first_len» (now (second .entry)) «second_len» (now (third .entry))) × (now (third .exit) ≡ «after-join» (now (first .entry)) «first_len» (now (second .entry)) «second_len» (now (third .entry))) ⌝ }
+    ensures { λ _. ⌜ (now (first .exit) ≡ now (first .entry)) × (now (second .exit) ≡ now (second .entry)) ⌝ }
+{
+    match checking::inspect(first, first_len) {
+        Framed::Refused(e) => Written::Refused(e),
+        Framed::Trailer(z) => joining::join_second(first, first_len, z, second, second_len, third),
     }
 }

@@ -1,5 +1,5 @@
 -- `admit` meets its contract. Assumes nothing.
-use mathlib.Core.Path.{_≡_, sym, ap}
+use mathlib.Core.Path.{_≡_, sym, ap, _∙_}
 use native.Mathlib.Omega.{arith}
 use borrow.Author.Needs.{needs}
 use Rattle.octagon.specs.Outcome.{accepted}
@@ -29,18 +29,18 @@ returns c = let s = start-of (c .before) in rw (admit-number (s .args .sheet .no
 
 returns-2 : tie.Need-returns-2
 returns-2 c =
-    let at-else = c .before in
+    let at-else = c .before .before in
     let s = start-of (at-else .before) in
     let a = s .args in
-    rw (admit-room (a .sheet .now) (a .r) (says s) (rw (found (at-else .before)) at (at-else .if1 .left)) (rw (next-length-is (a .sheet .now) (a .len) (a .z) (a .r) (good s)) (c .if2 .taken)))
+    rw (admit-room (a .sheet .now) (a .r) (says s) (rw (found (at-else .before)) at (at-else .if1 .left)) (rw (next-length-is (a .sheet .now) (a .len) (a .z) (a .r) (good s)) (sym (c .before .has-no-room .ensures) ∙ c .if2 .taken)))
 
 returns-3 : tie.Need-returns-3
 returns-3 c =
-    let at-else = c .before in
+    let at-else = c .before .before in
     let s = start-of (at-else .before) in
     let a = s .args in
     let l = next-length-is (a .sheet .now) (a .len) (a .z) (a .r) (good s) in
-    rw (admit-good (a .sheet .now) (a .r) (says s) (rw (found (at-else .before)) at (at-else .if1 .left)) (rw l (c .if2 .left))) (ap accepted (sym l))
+    rw (admit-good (a .sheet .now) (a .r) (says s) (rw (found (at-else .before)) at (at-else .if1 .left)) (rw l (sym (c .before .has-no-room .ensures) ∙ c .if2 .left))) (ap accepted (sym l))
 
 pub admit-spec : {M : Type 1} → statement M
 admit-spec =
@@ -57,5 +57,6 @@ admit-spec =
     (λ c. search needs)
     (λ c. let f = good (start-of (c .before)) .framing in record { fits = omega arith })
     (λ c. let f = good (start-of (c .before)) .framing in record { fits = omega arith })
+    (λ c κs. search needs)
     returns-2
     returns-3)
