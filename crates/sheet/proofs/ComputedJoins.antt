@@ -51,13 +51,16 @@ counts = (refl, refl, refl)
 
 -- ---- the order of the refusals
 
--- the first sheet's 8, the second's 9, then 18 though there is no room at all, then 12 by the new length, each before the next; `other` with
--- another fee row for seven
+-- `other` with another fee row for seven, and plots by falling number
 abbrev changed : List ℕ
 changed = 211 ∷ 212 ∷ 213 ∷ (seven-bytes ++ (0 ∷ 1 ∷ (thirteenth-bytes ++ (45 ∷ 1 ∷ written-trailer 52 2 26))))
 
-pub joined-in-order : joined one 15 changed 70 [] ∷ joined one 66 changed 70 [] ∷ joined changed 71 one 65 [] ∷ joined one 66 changed 71 [] ∷ joined changed 71 one 66 (replicate 99 9) ∷ joined one 66 other 71 [] ∷ joined one 66 other 71 (replicate 95 9) ∷ []
-    ≡ refused 8 ∷ refused 9 ∷ refused 9 ∷ refused 18 ∷ refused 18 ∷ refused 12 ∷ refused 12 ∷ []
+abbrev falling : List ℕ
+falling = thirteenth-bytes ++ (45 ∷ 1 ∷ (seven-bytes ++ (0 ∷ 1 ∷ written-trailer 52 2 26)))
+
+-- the first sheet's 8, the second's 9 and 11, then 18 though there is no room at all, then 12 by the new length, each before the next
+pub joined-in-order : joined one 15 changed 70 [] ∷ joined one 66 changed 70 [] ∷ joined changed 71 one 65 [] ∷ joined one 66 falling 68 [] ∷ joined one 66 changed 71 [] ∷ joined changed 71 one 66 (replicate 99 9) ∷ joined one 66 other 71 [] ∷ joined one 66 other 71 (replicate 95 9) ∷ []
+    ≡ refused 8 ∷ refused 9 ∷ refused 9 ∷ refused 11 ∷ refused 18 ∷ refused 18 ∷ refused 12 ∷ refused 12 ∷ []
 unfolding joined joining united conflict merged same-record same-outline parsed inspected framed stated trailer-at plots-from surveyed judged layout-of decoded signed traced closes placed is-on-map drawn bounds-at vertex
 joined-in-order = refl
 
@@ -98,5 +101,6 @@ told-apart = (refl, refl, refl)
 -- those of either by number, one of both once; how many are in both
 pub in-turn : (merged (seven 12 ∷ uneven 15451 ∷ []) (ninth ∷ thirteenth 301 ∷ uneven 15451 ∷ []) ≡ seven 12 ∷ ninth ∷ thirteenth 301 ∷ uneven 15451 ∷ [])
     × (in-both (seven 12 ∷ uneven 15451 ∷ []) (ninth ∷ thirteenth 301 ∷ uneven 15451 ∷ []) ≡ 1)
+    × (in-both (seven 12 ∷ thirteenth 301 ∷ uneven 15451 ∷ []) (seven 12 ∷ ninth ∷ uneven 15451 ∷ []) ≡ 2)
 unfolding merged
-in-turn = (refl, refl)
+in-turn = (refl, refl, refl)

@@ -1,6 +1,7 @@
 -- The order of the refusals on sheets with several faults, of either record length, and where an insert finds no room: antt computes
 -- them. Assumes nothing.
 use mathlib.Core.Path.{_≡_, refl}
+use mathlib.Core.Bool.{true, false}
 use mathlib.Core.List.{List, [], _∷_, _++_, map}
 use Prim.Native.Nat.{ℕ}
 use lib.IntN.{pos, negsuc}
@@ -18,7 +19,7 @@ use Rattle.sheet.specs.Layout.{base-layout, fee-layout, layout-of, encod
 use Rattle.sheet.specs.Trailer.{letters, trailer, trailer-at}
 use Rattle.sheet.specs.Sheets.{plots-from, records-bytes, sheet-bytes}
 use Rattle.sheet.specs.Checking.{stated, framed, judged, surveyed, inspected, parsed, checked}
-use Rattle.sheet.specs.Writing.{written-over, started, after-start, admitted, insertion, inserted}
+use Rattle.sheet.specs.Writing.{written-over, has-no-room, started, after-start, admitted, insertion, inserted}
 use Rattle.sheet.proofs.Computed.{plot, buffer, written-trailer, made, base-made}
 
 -- an outline that does not close, one that leaves the map, and one that is right
@@ -82,6 +83,10 @@ pub inserted-by-room : map (λ r. inserted (take 96 base-made) 67 r) (good-plot 
     ≡ refused 11 ∷ refused 12 ∷ refused 11 ∷ accepted 97 ∷ []
 unfolding inserted insertion admitted parsed inspected framed stated trailer-at plots-from surveyed judged layout-of decoded signed traced closes placed is-on-map drawn bounds-at vertex
 inserted-by-room = refl
+
+-- a sheet of 65,536 bytes has room in a buffer of as many, and one byte more has none
+pub room-to-the-limit : (s : List ℕ) → length s ≡ 65536 → (has-no-room s 65536 ≡ false) × (has-no-room s 65537 ≡ true)
+room-to-the-limit s e = rw e (refl, refl)
 
 -- ---- start a sheet
 

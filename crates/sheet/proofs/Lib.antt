@@ -28,6 +28,7 @@ pub mod Agreement
 pub mod Joins
 pub mod Tallies
 pub mod JoinCases
+pub mod JoinedOnce
 pub mod JoinLaws
 pub mod Computed
 pub mod ComputedRefusals
