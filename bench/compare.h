@@ -18,7 +18,8 @@ void random_plot(plot *p);
 void random_tape(double *tape, size_t len);
 /* A tree, mostly on the map and often at its edge (input_trees.c). */
 void random_tree(tree *t);
-/* Two operands, and how often one is spread or trimmed by the other; often opposed diagonal rows (input_pairs.c). */
+/* Two operands, and how often one is spread or trimmed by the other; often opposed diagonal rows, and some plots as wide as the map
+ * (input_pairs.c). */
 uint32_t random_pair(int32_t p[8], int32_t f[8]);
 
 /* ---- sheets (input_sheets.c) */
@@ -56,8 +57,11 @@ extern uint64_t octagons_by_cells, pairs_by_cells, outlines_by_cells, splits_by_
 extern uint64_t joined, joined_once;
 /* The calls with a spread in them: how many answers of each are filled, how many of these were worked out by cells too, and how many
  * spreads of opposed rows leave the map. */
-enum { DILATE, OPENING, CLOSING, DILATE_N, SPREADS };
+enum { DILATE, OPENING, CLOSING, DILATE_N, DILATE_M_N, SPREADS };
 extern uint64_t filled[SPREADS], filled_by_cells, filled_off_map;
+/* Folds that were made in two calls too: how many, how often one call is filled and the second of two is exact, and how often the first of
+ * two trims leaves the map and one call does not. */
+extern uint64_t in_two_calls, marks_differ, trims_off_map;
 /* Writes the difference and ends the program. */
 void differ(const char *call, const int32_t *p, const int32_t *f, uint32_t got, uint32_t want);
 void count_answer(uint32_t number);

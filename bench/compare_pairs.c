@@ -71,7 +71,7 @@ static uint32_t *no_mark(uint32_t mark[3]) {
 
 /* An answer with octagon and mark: the mark is written where the call is accepted, and nothing beside it. */
 static void check_spread(int which, const int32_t *p, const int32_t *f, uint32_t got, const int32_t out[8], const uint32_t mark[3], const answer *want) {
-    static const char *const calls[SPREADS] = {"kx_dilate", "kx_opening", "kx_closing", "kx_dilate_n"};
+    static const char *const calls[SPREADS] = {"kx_dilate", "kx_opening", "kx_closing", "kx_dilate_n", "kx_dilate_n after kx_dilate_n"};
     int fills = !want->number && want->filled;
     if (mark[0] != UNMARKED || mark[1] != (want->number ? UNMARKED : fills ? KX_FILLED : KX_EXACT) || mark[2] != UNMARKED) {
         printf("the mark is %u, of a call that is to be %s\n", mark[1], want->number ? "refused" : fills ? "filled" : "exact");
@@ -79,7 +79,46 @@ static void check_spread(int which, const int32_t *p, const int32_t *f, uint32_t
     }
     check(calls[which], p, f, got, out, *want);
     filled[which] += fills;
-    filled_off_map += want->number && want->filled;
+    filled_off_map += want->number && want->filled && which != DILATE_M_N;
+}
+
+/* m spreads, and then n - m of what came of them. The first is worked out by itself; of both there is wanted what is wanted of n, but that
+ * the second is exact where the first made a fold. n spreads are filled where one of the two is. */
+static void check_spreads(const int32_t p[8], const int32_t f[8], uint32_t m, uint32_t n, answer want) {
+    int32_t between[8], out[8];
+    uint32_t mark[3], number = kx_dilate_n(p, 8, f, 8, m, cleared(between), 8, no_mark(mark));
+    answer first = dilation_by_search(p, f, m);
+    check_spread(DILATE_N, p, f, number, between, mark, &first);
+    if (number && number != want.number)
+        differ("kx_dilate_n, the first of two", p, f, number, want.number);
+    if (number)
+        return;
+    marks_differ += first.filled && !want.number;
+    want.filled &= !first.filled;
+    check_spread(DILATE_M_N, p, f, kx_dilate_n(between, 8, f, 8, n - m, cleared(out), 8, no_mark(mark)), out, mark, &want);
+}
+
+/* m trims, and then n - m of what is left: what is wanted of n, unless the first is to leave the map. */
+static void check_trims(const int32_t p[8], const int32_t f[8], uint32_t m, uint32_t n, const answer *want) {
+    int32_t between[8], out[8];
+    uint32_t number = kx_erode_n(p, 8, f, 8, m, cleared(between), 8);
+    answer first = erosion_by_search(p, f, m);
+    check("kx_erode_n", p, f, number, between, first);
+    if (!number)
+        check("kx_erode_n after kx_erode_n", p, f, kx_erode_n(between, 8, f, 8, n - m, cleared(out), 8), out, *want);
+    else if (number == 2)
+        trims_off_map += want->number != 2;
+    else if (number != want->number)
+        differ("kx_erode_n, the first of two", p, f, number, want->number);
+}
+
+/* So many folds in two calls, where one call takes them. */
+static void check_two_calls(const int32_t p[8], const int32_t f[8], uint32_t n, const answers *r) {
+    if (n <= FOLDS) {
+        check_spreads(p, f, any() % (n + 1), n, r->dilation_n);
+        check_trims(p, f, any() % (n + 1), n, &r->erosion_n);
+        in_two_calls += n > 0;
+    }
 }
 
 void compare_two(const int32_t p[8], const int32_t f[8], uint32_t n) {
@@ -98,4 +137,5 @@ void compare_two(const int32_t p[8], const int32_t f[8], uint32_t n) {
     check_spread(CLOSING, p, f, kx_closing(p, 8, f, 8, cleared(out), 8, no_mark(mark)), out, mark, &r.closing);
     check_spread(DILATE_N, p, f, kx_dilate_n(p, 8, f, 8, n, cleared(out), 8, no_mark(mark)), out, mark, &r.dilation_n);
     check("kx_erode_n", p, f, kx_erode_n(p, 8, f, 8, n, cleared(out), 8), out, r.erosion_n);
+    check_two_calls(p, f, n, &r);
 }

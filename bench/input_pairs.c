@@ -66,4 +66,23 @@ static uint32_t random_opposed(int32_t p[8], int32_t f[8]) {
     return n;
 }
 
-uint32_t random_pair(int32_t p[8], int32_t f[8]) { return any() % 8 ? random_two(p, f) : random_opposed(p, f); }
+/* A plot of up to the whole map, half of them at one of its edges and narrower there, and a small element, which is often near (0, 0): up to
+ * as many folds as the plot has columns, so that some leave a few cells, and some leave the map on the way. */
+static uint32_t random_wide(int32_t p[8], int32_t f[8]) {
+    int32_t size = from(40, LIMIT), away = any() % 2 ? LIMIT - size : from(size - LIMIT, LIMIT - size);
+    int edge = 2 * (int)(any() % 4);
+    random_bounds(f, 3, 0);
+    for (int k = 0; k < 8; k++)
+        p[k] = k % 2 ? size + from(0, size) : size;
+    for (int k = 1; k < 4; k += 2)
+        p[(k + edge) % 8] = size + from(0, 40);
+    move(p, away * STEP[edge][0], away * STEP[edge][1]);
+    if (any() % 4 == 0)
+        loosen(p);
+    return (uint32_t)from(0, 2 * size);
+}
+
+uint32_t random_pair(int32_t p[8], int32_t f[8]) {
+    uint32_t kind = any() % 16;
+    return kind < 2 ? random_opposed(p, f) : kind == 2 ? random_wide(p, f) : random_two(p, f);
+}

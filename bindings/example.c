@@ -121,6 +121,7 @@ static void uneven(void) {
     static const int32_t slack[8] = {5, 4, 0, 10, 40, 27, 11, 20};
     int32_t plot[8] = {0}, out[8] = {0};
     double place[2] = {0, 0};
+    uint32_t mark = UNMARKED;
     kx_to_octagon(UNEVEN_START, 2, UNEVEN_SIDES, 8, plot, 8);
     show_bounds("uneven plot", plot);
     show_bounds("slack bounds that differ", slack);
@@ -130,7 +131,12 @@ static void uneven(void) {
     show_spread("opened by the frame", kx_opening, plot, FRAME);
     show_spread("closed by the frame", kx_closing, plot, FRAME);
     show_folds("spread twice by the frame", plot, FRAME, 2);
+    kx_dilate_n(plot, 8, FRAME, 8, 2, out, 8, &mark);
+    show_folds("that spread 3 times by the frame", out, FRAME, 3);
+    show_folds("spread 5 times by the frame", plot, FRAME, 5);
     show("trimmed twice by the frame", kx_erode_n(plot, 8, FRAME, 8, 2, out, 8), out);
+    kx_erode(plot, 8, FRAME, 8, out, 8);
+    show_trim("trimmed once and once more", kx_erode, out, FRAME);
     show_trim("the frame trimmed by the plot", kx_erode, FRAME, plot);
     for (uint32_t k = 0; k < KX_SIDES; k++)
         if (kx_vertex_place(plot, 8, k, place, 2) == KX_ACCEPTED)
@@ -158,6 +164,7 @@ static void opposed_rows(void) {
     show_spread("rising spread by itself", kx_dilate, rising, rising);
     show_spread("rising spread by (0,0)", kx_dilate, rising, ORIGIN);
     show_folds("rising spread 3 times by falling", rising, falling, 3);
+    show_folds("rising spread once and then 2 times", both, falling, 2);
     show_folds("rising spread 0 times by falling", rising, falling, 0);
     show_spread("to the edge of the map", kx_dilate, edge, falling);
     show_spread("past it", kx_dilate, past, falling);

@@ -103,7 +103,11 @@ fn uneven() {
     show_spread("opened by the frame", kx::opening(&plot, &FRAME));
     show_spread("closed by the frame", kx::closing(&plot, &FRAME));
     show_spread("spread twice by the frame", kx::dilate_n(&plot, &FRAME, 2));
+    let twice = kx::dilate_n(&plot, &FRAME, 2).unwrap().bounds();
+    show_spread("that spread 3 times by the frame", kx::dilate_n(&twice, &FRAME, 3));
+    show_spread("spread 5 times by the frame", kx::dilate_n(&plot, &FRAME, 5));
     show("trimmed twice by the frame", kx::erode_n(&plot, &FRAME, 2));
+    show("trimmed once and once more", kx::erode(&plot, &FRAME).and_then(|left| kx::erode(&left, &FRAME)));
     show("the frame trimmed by the plot", kx::erode(&FRAME, &plot));
     for k in 0..8 {
         let [east, north] = kx::vertex_place(&plot, k).unwrap();
@@ -129,6 +133,7 @@ fn opposed_rows() {
     show_spread("rising spread by itself", kx::dilate(&rising, &rising));
     show_spread("rising spread by (0,0)", kx::dilate(&rising, &ORIGIN));
     show_spread("rising spread 3 times by falling", kx::dilate_n(&rising, &falling, 3));
+    show_spread("rising spread once and then 2 times", kx::dilate_n(&both.bounds(), &falling, 2));
     show_spread("rising spread 0 times by falling", kx::dilate_n(&rising, &falling, 0));
     show_spread("to the edge of the map", kx::dilate(&edge, &falling));
     show_spread("past it", kx::dilate(&past, &falling));

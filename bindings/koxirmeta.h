@@ -113,7 +113,10 @@ uint32_t kx_closing(const int32_t *plot, size_t plot_len, const int32_t *element
  *   dilate_n           2 for the final set. Filled exactly where n is at least 1 and the operands are opposed diagonal rows: it is
  *                      then the smallest octagon that holds every sum of a cell of the plot and n cells of the element
  *   erode_n            5, then 2, both for the final set
- * With n = 0 both give the plot, normalised, and dilate_n is exact. */
+ * With n = 0 both give the plot, normalised, and dilate_n is exact.
+ * Folds add up: with m + n up to KX_FOLD_LIMIT, m folds, and then n of what came of them, give the octagon of m + n folds or are refused as
+ * these are, but that trims whose first call is refused with 2 may be accepted in one call. Each spread has its own mark: m + n folds are
+ * filled exactly where one of the two calls is, and after one fold or more the second call is exact, whatever the first was. */
 uint32_t kx_dilate_n(const int32_t *plot, size_t plot_len, const int32_t *element, size_t element_len, uint32_t n, int32_t *out, size_t out_len, uint32_t *mark);
 uint32_t kx_erode_n(const int32_t *plot, size_t plot_len, const int32_t *element, size_t element_len, uint32_t n, int32_t *out, size_t out_len);
 

@@ -299,12 +299,18 @@ spreads! {
     /// The dilation n times by the same element: filled where n is at least 1 and the two are opposed diagonal rows. It is then the
     /// smallest octagon that holds every sum of a cell of the plot and n cells of the element.
     ///
+    /// Folds add up: with m + n up to [`FOLD_LIMIT`], m folds, and then n of what came of them, give the octagon of m + n folds or are
+    /// refused as these are. m + n folds are filled exactly where one of the two calls is, and after one fold or more the second call is
+    /// exact, whatever the first was.
+    ///
     /// Refusals: `TooManyFolds`, each operand's; then `OffMap` for the final set.
     dilate_n, kx_dilate_n, n
 }
 trims! {
-    /// The erosion n times by the same element. Refusals: `TooManyFolds`, each operand's; then
-    /// `NothingLeft` and `OffMap`, both for the final set.
+    /// The erosion n times by the same element. Folds add up as those of [`dilate_n`] do, but that trims whose first call is refused
+    /// with `OffMap` may be accepted in one call.
+    ///
+    /// Refusals: `TooManyFolds`, each operand's; then `NothingLeft` and `OffMap`, both for the final set.
     erode_n, kx_erode_n, n
 }
 

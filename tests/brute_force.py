@@ -8,8 +8,9 @@ It shares with the program the thirteen pieces, the sequence of drawn ones and t
 code. A set is a Python set of cells (x, y) with no edge and no window. Sums, positions that fit, the cells to the left of a
 side and opposed diagonal rows are taken word for word from the definitions; a spread is filled where its operands are opposed,
 and that no octagon has just its sums is asserted beside it. The triangles of a split are picked from all the ways to take
-pieces from what the rows leave until nothing is left. "agreed" is the number of comparisons that the program makes, since
-every answer has to agree.
+pieces from what the rows leave until nothing is left. Folds in two calls are those of the smallest octagon that holds what
+the first gave. Some 65,535 folds are told from the plot, moved by that many times each cell of the element. "agreed" is the
+number of comparisons that the program makes, since every answer has to agree.
 """
 
 from fractions import Fraction
@@ -17,6 +18,7 @@ from functools import cache
 
 MOST = 2**31 - 1
 LIMIT = 16000
+FOLDS = 65535
 STEPS = [(1, 0), (1, 1), (0, 1), (-1, 1), (-1, 0), (-1, -1), (0, -1), (1, -1)]
 
 
@@ -42,13 +44,17 @@ def tightest(some):
     return [max(values) for values in zip(*map(forms, some))]
 
 
-def is_octagon(some):
-    """Whether the cells are those of an octagon, within a rectangle about them."""
+def smallest(some):
+    """The cells of the smallest octagon that holds some cells, within a rectangle about them."""
     xs = [x for x, _ in some]
     ys = [y for _, y in some]
     bounds = tightest(some)
     about = [(x, y) for x in range(min(xs), max(xs) + 1) for y in range(min(ys), max(ys) + 1)]
-    return all((c in some) == all(f <= b for f, b in zip(forms(c), bounds)) for c in about)
+    return {c for c in about if all(f <= b for f, b in zip(forms(c), bounds))}
+
+
+def is_octagon(some):
+    return some == smallest(some)
 
 
 def is_off_map(some):
@@ -302,7 +308,7 @@ CALLS = {
     name: Kind()
     for name in (
         "normalise count_cells to_outline vertex_place to_octagon decompose "
-        "dilate erode closing opening dilate_n erode_n"
+        "dilate erode closing opening dilate_n erode_n dilate_m_n erode_m_n"
     ).split()
 }
 OPERATIONS = list(CALLS)[6:]
@@ -346,14 +352,84 @@ def compare_steps(p, e):
     CALLS["opening"].note(first if first[10] else spread(erosion(p, e), e))
 
 
-def compare_folds(p, e):
-    more = less = p
-    for n in range(5):
-        if n:
-            more, less = dilation(more, e), erosion(less, e) if less else less
-        CALLS["dilate_n"].note(bounded(more, is_filled(p, e, n, more)))
-        CALLS["erode_n"].note(trimmed(less))
+def dilations(a, b, n):
+    """A set and its sums after one fold to n."""
+    found = [a]
+    for _ in range(n):
+        found.append(dilation(found[-1], b))
+    return found
+
+
+def erosions(a, b, n):
+    found = [a]
+    for _ in range(n):
+        found.append(erosion(found[-1], b) if found[-1] else set())
+    return found
+
+
+def most_sums(p, e, n):
+    """The answer to so many spreads, some 65,535: the sums have p moved by that many times each cell of e."""
+    moved = [{(x + n * u, y + n * v) for x, y in p} for u, v in e]
+    if len(e) == 1:
+        return accepted(moved[0])
+    assert any(is_off_map(some) for some in moved)
+    return refused(2)
+
+
+def most_left(p, e, n):
+    """The answer to so many trims, some 65,535: what is left lies in p moved back by that many times each cell of e."""
+    moved = [{(x - n * u, y - n * v) for x, y in p} for u, v in e]
+    if len(e) == 1:
+        return trimmed(moved[0])
+    assert not set.intersection(*moved)
+    return refused(5)
+
+
+def second_spreads(more, e):
+    """For each m up to 4 the answers to m spreads and then none to 4 - m: those of the smallest octagon that holds the sums."""
+    found = []
+    for m, sums in enumerate(more):
+        given = smallest(sums)
+        later = more[m:] if given == sums else dilations(given, e, 4 - m)
+        first = [refused(2)] * len(later) if is_off_map(sums) else None
+        found.append(first or [bounded(some, is_filled(given, e, n, some)) for n, some in enumerate(later)])
+    return found
+
+
+def compare_spreads(p, e):
+    more = dilations(p, e, 4)
+    given = second_spreads(more, e)
+    for k, sums in enumerate(more):
+        at_once = bounded(sums, is_filled(p, e, k, sums))
+        CALLS["dilate_n"].note(at_once)
+        for m in range(k + 1):
+            # folds add up, but for the mark
+            assert given[m][k - m][:11] == at_once[:11]
+            CALLS["dilate_m_n"].note(given[m][k - m])
+    most = most_sums(p, e, FOLDS)
+    CALLS["dilate_n"].note(most)
+    for m in range(5):
+        # few folds and then the rest, and the other way round: where the first call is refused, so are all folds
+        assert most_sums(p, e, FOLDS - m)[10] in (0, most[10]) and (2 if is_off_map(more[m]) else 0) in (0, most[10])
+        CALLS["dilate_m_n"].note(most)
+        CALLS["dilate_m_n"].note(most)
     CALLS["dilate_n"].note(refused(6))
+
+
+def compare_trims(p, e):
+    less = erosions(p, e, 4)
+    for k, left in enumerate(less):
+        CALLS["erode_n"].note(trimmed(left))
+        for first in less[: k + 1]:
+            # where the first of two trims leaves the map, nothing is compared
+            if trimmed(first)[10] != 2:
+                CALLS["erode_m_n"].note(trimmed(left))
+    most = most_left(p, e, FOLDS)
+    CALLS["erode_n"].note(most)
+    for m, first in enumerate(less):
+        for answer in (trimmed(first), most_left(p, e, FOLDS - m)):
+            if answer[10] != 2:
+                CALLS["erode_m_n"].note(most)
     CALLS["erode_n"].note(refused(6))
 
 
@@ -368,7 +444,8 @@ def compare(pair, plot, element):
             CALLS[name].note(refused(first or second))
         return
     compare_steps(p, e)
-    compare_folds(p, e)
+    compare_spreads(p, e)
+    compare_trims(p, e)
 
 
 def main():

@@ -106,7 +106,11 @@ def uneven():
     yield spread("spread by the frame", "dilate", UNEVEN, FRAME) + trimmed("trimmed by the frame", "erode", UNEVEN, FRAME)
     yield spread("opened by the frame", "opening", UNEVEN, FRAME) + spread("closed by the frame", "closing", UNEVEN, FRAME)
     yield spread("spread twice by the frame", "dilate_n", UNEVEN, FRAME, 2)
+    twice, once = (tightest(PAIRED[name](UNEVEN, FRAME, n)[0]) for name, n in (("dilate_n", 2), ("erode", 1)))
+    yield spread("that spread 3 times by the frame", "dilate_n", twice, FRAME, 3)
+    yield spread("spread 5 times by the frame", "dilate_n", UNEVEN, FRAME, 5)
     yield trimmed("trimmed twice by the frame", "erode_n", UNEVEN, FRAME, 2)
+    yield trimmed("trimmed once and once more", "erode", once, FRAME)
     yield trimmed("the frame trimmed by the plot", "erode", FRAME, UNEVEN)
     for k in range(8):
         yield located("corner %d" % k, UNEVEN, k)
@@ -125,8 +129,9 @@ def opposed_rows():
     yield spread("falling closed by rising", "closing", falling, rising)
     yield spread("rising opened by falling", "opening", rising, falling)
     yield spread("rising spread by itself", "dilate", rising, rising) + spread("rising spread by (0,0)", "dilate", rising, ORIGIN)
-    for n in 3, 0:
-        yield spread("rising spread %d times by falling" % n, "dilate_n", rising, falling, n)
+    yield spread("rising spread 3 times by falling", "dilate_n", rising, falling, 3)
+    yield spread("rising spread once and then 2 times", "dilate_n", sums, falling, 2)
+    yield spread("rising spread 0 times by falling", "dilate_n", rising, falling, 0)
     yield spread("to the edge of the map", "dilate", edge, falling) + spread("past it", "dilate", past, falling)
     yield spread("closed past it", "closing", past, falling)
 

@@ -17,7 +17,7 @@ use octagon::Octagon;
 // Document 01's refusal numbers.
 pub const NO_CELL: usize = 1;
 
-const OFF_MAP: usize = 2;
+pub const OFF_MAP: usize = 2;
 
 pub const NOT_CLOSED: usize = 3;
 
@@ -51,7 +51,7 @@ fn number_of(bench: &Bench, empty: usize) -> usize {
 
 // Expects the ten numbers of a row, or with a number that is not 0 a refusal, which has no others; and no mark.
 pub fn expect_row(bench: &mut Bench, row: usize, number: usize)
-    requires { ⌜ row < 352 ⌝ }
+    requires { ⌜ row < 400 ⌝ }
 {
     let mut k = 0;
     while k < 10 {
@@ -126,7 +126,7 @@ pub fn is_spread(bench: &Bench, given: Spread) -> bool {
 }
 
 fn bound(bench: &Bench, row: usize, k: usize) -> i32
-    requires { ⌜ row < 352 ⌝ }
+    requires { ⌜ row < 400 ⌝ }
     requires { ⌜ k < 16 ⌝ }
 {
     lowered(get(bench, row, k))
@@ -134,7 +134,7 @@ fn bound(bench: &Bench, row: usize, k: usize) -> i32
 
 // An operand as the library takes it.
 pub fn octagon(bench: &Bench, row: usize) -> Octagon
-    requires { ⌜ row < 352 ⌝ }
+    requires { ⌜ row < 400 ⌝ }
 {
     Octagon {
         c0: bound(bench, row, 0),

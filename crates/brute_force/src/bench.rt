@@ -4,44 +4,47 @@
 // for the SIZE cells of a window and a 0 for what is off it; a set has a number, and its window a place in the row of the places.
 ghost use Prim.Native.Nat.{_<_};
 
-pub type Bench = [usize; 9960];
+pub type Bench = [usize; 10008];
 
 // The operands, eight bounds each, the plot's and then the element's.
-pub const OPERANDS: usize = 192;
+pub const OPERANDS: usize = 224;
 
 // What is expected: up to ten numbers, then the refusal number, or 0 where the call is accepted, and last the mark: 1 where an octagon is
 // filled, or 0.
-pub const EXPECTED: usize = 224;
+pub const EXPECTED: usize = 256;
 
-pub const NUMBER: usize = 234;
+pub const NUMBER: usize = 266;
 
-pub const MARK: usize = 235;
+pub const MARK: usize = 267;
 
 // An outline: eight sides and the start.
-pub const OUTLINE: usize = 240;
+pub const OUTLINE: usize = 272;
 
 // The bounds that a set or an outline has.
-pub const BOUNDS: usize = 256;
+pub const BOUNDS: usize = 288;
 
-pub const PLACES: usize = 272;
+pub const PLACES: usize = 304;
 
 // Which pair is at hand.
-pub const PAIR: usize = 276;
+pub const PAIR: usize = 308;
 
 // The state of the sequence of draws, and ten draws.
-pub const DRAWS: usize = 288;
+pub const DRAWS: usize = 320;
 
 // A row that stays 0.
-pub const ZEROS: usize = 304;
+pub const ZEROS: usize = 336;
 
 // A corner: its column and row, and zeros.
-pub const CORNER: usize = 320;
+pub const CORNER: usize = 352;
 
 // The counts of K1 to K13 by document 01's rule, and 1 where one choice fits.
-pub const COUNTS: usize = 336;
+pub const COUNTS: usize = 368;
+
+// The refusal numbers, or 0, that are expected after no folds to four.
+pub const FOLDED: usize = 384;
 
 // Where the sets begin: the plot's cells, the element's, those worked out so far, and those of the next step.
-pub const SETS: usize = 352;
+pub const SETS: usize = 400;
 
 pub const SPAN: usize = 2402;
 
@@ -57,7 +60,7 @@ pub const LIFT: usize = 4294967296;
 
 // Number k of a row.
 pub fn get(bench: &Bench, row: usize, k: usize) -> usize
-    requires { ⌜ row < 352 ⌝ }
+    requires { ⌜ row < 400 ⌝ }
     requires { ⌜ k < 16 ⌝ }
 {
     bench[row + k]

@@ -2,7 +2,8 @@
 //
 // What is expected comes from document 01's eight inequalities and steps, its rule for the counts of a split, and the set definitions 2.12
 // to 2.17 of source document 002 alone; no call of the library is made for it. A spread is expected to be filled where no octagon has just
-// the cells of its set. tests/brute_force.py works the output out by itself.
+// the cells of its set, but the second of two to be exact where the first made a fold. Some 65,535 folds are not enumerated (two_calls.rt).
+// tests/brute_force.py works the output out by itself.
 mod answers;
 mod bench;
 mod corners;
@@ -15,6 +16,7 @@ mod pieces;
 mod rule;
 mod sets;
 mod tally;
+mod two_calls;
 mod walks;
 
 use bench::Bench;
@@ -36,7 +38,7 @@ fn compare(bench: &mut Bench) {
 }
 
 fn main() {
-    let mut bench = [0; 9960];
+    let mut bench = [0; 10008];
     let mut k = 0;
     while k < PAIRS {
         bench[PAIR] = k;

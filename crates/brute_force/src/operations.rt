@@ -1,4 +1,5 @@
-// Dilation, erosion, opening, closing and the folds of one pair of octagons beside the enumerated sets.
+// Dilation, erosion, opening, closing and the folds of one pair of octagons beside the enumerated sets; as many folds as the limit has
+// beside what is known of them.
 ghost use Prim.Native.Nat.{_<_};
 use crate::answers;
 use crate::answers::NOTHING_LEFT;
@@ -7,6 +8,7 @@ use crate::answers::is_spread;
 use crate::answers::octagon;
 use crate::bench::BOUNDS;
 use crate::bench::Bench;
+use crate::bench::FOLDED;
 use crate::bench::MARK;
 use crate::bench::OPERANDS;
 use crate::bench::PLACES;
@@ -14,12 +16,14 @@ use crate::bench::PLOT;
 use crate::bench::RESULT;
 use crate::sets;
 use crate::tally;
-use crate::tally::CALLS;
 use crate::tally::CLOSING;
 use crate::tally::DILATE;
+use crate::tally::DILATE_M_N;
 use crate::tally::DILATE_N;
 use crate::tally::ERODE;
 use crate::tally::OPENING;
+use crate::two_calls;
+use crate::two_calls::FOLD_LIMIT;
 use morphology::folds::dilate_n;
 use morphology::folds::erode_n;
 use octagon::Octagon;
@@ -38,7 +42,7 @@ fn agrees(bench: &Bench, call: usize, n: u32, plot: Octagon, element: Octagon) -
 
 // An operation beside what is expected of it.
 fn compare(bench: &mut Bench, call: usize, n: u32)
-    requires { ⌜ call < 12 ⌝ }
+    requires { ⌜ call < 14 ⌝ }
 {
     let plot = octagon(bench, OPERANDS);
     let element = octagon(bench, OPERANDS + 16);
@@ -47,7 +51,7 @@ fn compare(bench: &mut Bench, call: usize, n: u32)
 
 // An operation beside the result. Gives the refusal number, or 0.
 fn compare_result(bench: &mut Bench, call: usize, n: u32) -> usize
-    requires { ⌜ call < 12 ⌝ }
+    requires { ⌜ call < 14 ⌝ }
 {
     let number = answers::expect(bench, RESULT, NOTHING_LEFT);
     compare(bench, call, n);
@@ -58,10 +62,12 @@ fn compare_result(bench: &mut Bench, call: usize, n: u32) -> usize
 fn compare_refused(bench: &mut Bench, number: usize) {
     answers::expect_row(bench, BOUNDS, number);
     let mut call = DILATE;
-    while call < CALLS {
+    while call < DILATE_M_N {
         compare(bench, call, 1);
         call += 1;
     }
+    two_calls::compare(bench, false, 1, 1);
+    two_calls::compare(bench, true, 1, 1);
 }
 
 // A call that begins with a dilation, or the one after it, which begins with an erosion.
@@ -95,19 +101,32 @@ fn compare_steps(bench: &mut Bench, erodes: bool) {
     }
 }
 
-// No folds to four, one at a time, and one more than the limit of 65,535.
-fn compare_folds(bench: &mut Bench, erodes: bool) {
-    let call = call_of(DILATE_N, erodes);
+// No folds to four, one at a time, in one call and in two.
+fn compare_few(bench: &mut Bench, erodes: bool) {
     let place = bench[PLACES + PLOT];
     sets::enumerate(bench, OPERANDS, RESULT, place);
     let mut n = 0;
     while n < 5 {
-        compare_result(bench, call, n);
+        bench[FOLDED + n as usize] = compare_result(bench, call_of(DILATE_N, erodes), n);
+        two_calls::compare_ways(bench, erodes, n);
         sets::fold(bench, erodes);
         n += 1;
     }
+}
+
+// As many folds as the limit has, in one call and in two, and one more.
+fn compare_most(bench: &mut Bench, erodes: bool) {
+    let call = call_of(DILATE_N, erodes);
+    two_calls::expect_most(bench, erodes);
+    compare(bench, call, FOLD_LIMIT);
+    two_calls::compare_most(bench, erodes);
     answers::expect_row(bench, BOUNDS, answers::TOO_MANY_FOLDS);
-    compare(bench, call, 65536);
+    compare(bench, call, FOLD_LIMIT + 1);
+}
+
+fn compare_folds(bench: &mut Bench, erodes: bool) {
+    compare_few(bench, erodes);
+    compare_most(bench, erodes);
 }
 
 // Every operation on a pair of which an operand is refused with a number, or both are accepted.

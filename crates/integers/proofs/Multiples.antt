@@ -1,10 +1,11 @@
 -- A natural multiple of an integer, by its parts. Assumes nothing.
-use Prim.Native.Nat.{ℕ, suc, _*_, _≤_}
-use native.Mathlib.Nat.{mul-zero, suc-mul, mul-le-mul}
+use Prim.Native.Nat.{ℕ, suc, _+_, _*_, _≤_}
+use native.Mathlib.Nat.{mul-zero, suc-mul, add-mul, mul-le-mul-left, mul-le-mul}
 use native.Mathlib.Omega.{arith}
 use lib.IntN.{ℤ, pos, negsuc, _*ℤ_}
 use Rattle.integers.proofs.Parts.{up, dn, neg-up, neg-dn}
 use Rattle.integers.proofs.Linear.{Diff, #, _⊕_, neg, lit, _≼_, _≈_}
+use Rattle.integers.proofs.Between.{decide}
 use Rattle.integers.proofs.Range.{near-parts}
 
 -- a multiple of a difference
@@ -27,3 +28,12 @@ times-near n m k z l h j =
     let u = mul-le-mul {n₁ = n} {m₁ = up z} {n₂ = m} {m₂ = k} l (p .0) in
     let d = mul-le-mul {n₁ = n} {m₁ = dn z} {n₂ = m} {m₂ = k} l (p .1) in
     (omega (arith, times-parts n z), omega (arith, times-parts n z))
+
+-- a number that is at most k, and so with m + n multiples of another added, is so with m of them added
+pub times-between : (m n k : ℕ) (x z : ℤ) → # x ≼ lit k → # x ⊕ # (pos (m + n) *ℤ z) ≼ lit k → # x ⊕ # (pos m *ℤ z) ≼ lit k
+times-between m n k x z h j =
+    decide (# z) (lit 0)
+    (λ f. let u : m * up z ≤ m * dn z = mul-le-mul-left m (omega arith) in omega (arith, times-parts m z))
+    (λ f.
+    let u : n * dn z ≤ n * up z = mul-le-mul-left n (omega arith) in
+    omega (arith, times-parts m z, times-parts (m + n) z, add-mul m n (up z), add-mul m n (dn z)))

@@ -1,5 +1,6 @@
 -- Tests of integers that compute, and the linear facts that they tell. Assumes nothing.
 use mathlib.Core.Path.{_≡_, refl, sym, _∙_}
+use mathlib.Core.Logic.{_⊎_, inl, inr}
 use mathlib.Core.Bool.{Bool, true, false, not, _&&_, _||_}
 use native.Mathlib.Omega.{arith}
 use lib.Dec.{T, ltb→lt, nltb→le}
@@ -32,6 +33,24 @@ both-true false b h = absurd (true-T h)
 pub or-false : (a b : Bool) → (a || b) ≡ false → (a ≡ false) × (b ≡ false)
 or-false true b h = absurd (true-is-not-false h)
 or-false false b h = (refl, h)
+
+pub or-either : (a b : Bool) → (a || b) ≡ true → (a ≡ true) ⊎ (b ≡ true)
+or-either true b h = inl refl
+or-either false b h = inr h
+
+pub either-or : (a b : Bool) → (a ≡ true) ⊎ (b ≡ true) → (a || b) ≡ true
+either-or a b (inl p) = rw p refl
+either-or a b (inr q) = rw q (true-right a)
+  where
+    true-right : (a : Bool) → (a || true) ≡ true
+    true-right true = refl
+    true-right false = refl
+
+-- two tests that are true together are one
+pub both-or-neither : (a b : Bool) → (a ≡ true → b ≡ true) → (b ≡ true → a ≡ true) → a ≡ b
+both-or-neither true b f g = sym (f refl)
+both-or-neither false true f g = g refl
+both-or-neither false false f g = refl
 
 pub and-true : {a b : Bool} → a ≡ true → b ≡ true → (a && b) ≡ true
 and-true p q = rw (p, q)

@@ -27,6 +27,11 @@ pub other : {R T : Type 0} {k : ℕ} {C : Answers R} {o : Outcome R} → ¬ (o �
 other n (fails t) = absurd (n refl)
 other n (passes h c) = c
 
+-- and its test does not hold
+pub not-failed : {R T : Type 0} {k : ℕ} {C : Answers R} {o : Outcome R} → ¬ (o ≡ refused k) → Check T k C o → ¬ T
+not-failed n (fails t) = absurd (n refl)
+not-failed n (passes h c) = h
+
 pub later : {R T : Type 0} {k : ℕ} {C : Answers R} {a : R} → Check T k C (accepted a) → C (accepted a)
 later c = other (λ e. accepted-not-refused e) c
 

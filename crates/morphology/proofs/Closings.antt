@@ -1,8 +1,9 @@
--- The answers of `closing`, each with the case of documents 01 and 02 in which it is given: what the dilation gave, exact or filled, eroded,
--- is the first operand's normal form. Assumes nothing.
-use mathlib.Core.Path.{_≡_, refl, _∙_}
+-- The answers of `closing`, each with the case of documents 01 and 02 in which it is given: what a dilation gave, exact or filled, of one fold
+-- or of n, is the first operand's normal form once it is eroded as often. Assumes nothing.
+use mathlib.Core.Path.{_≡_, refl, sym, _∙_}
 use mathlib.Core.Logic.{_↔_}
 use mathlib.Core.Bool.{true}
+use Prim.Native.Nat.{ℕ}
 use native.Mathlib.Omega.{arith}
 use Rattle.octagon.specs.declared.Octagon.{Octagon}
 use Rattle.octagon.specs.Outcome.{Outcome, accepted, refused, then}
@@ -13,7 +14,7 @@ use Rattle.octagon.proofs.NormalForms.{accepted-means, normalised-again}
 use Rattle.morphology.specs.Sets.{Dilated, Closed, OpposedRows}
 use Rattle.morphology.specs.Marks.{Marked, exact, filled}
 use Rattle.morphology.specs.Operations.{sums, nothing-left, dilation, erosion}
-use Rattle.morphology.specs.Folds.{marked-erosion, closed}
+use Rattle.morphology.specs.Folds.{multiples, dilation-n, erosion-n, marked-erosion, closed}
 use Rattle.morphology.specs.Cases.{says-exact, says-filled, Spreads, StaysExact, Closing}
 use Rattle.morphology.proofs.Sums.{sums-hold}
 use Rattle.morphology.proofs.Differences.{sums-back, differences-exact}
@@ -21,7 +22,8 @@ use Rattle.morphology.proofs.SetLaws.{same-refl, same-sym, same-trans, 
 use Rattle.morphology.proofs.Checks.{later, skip, after-operands, skip-operands, onward, onward-operands, check-one, operands-one, exactly}
 use Rattle.morphology.proofs.Handed.{own-form, represents-same, says-not-refused, stays-exact-one, stays-exact-known}
 use Rattle.morphology.proofs.Operands.{form-of}
-use Rattle.morphology.proofs.Dilations.{dilating, dilation-accepted, Sum, accepted-sum}
+use Rattle.morphology.proofs.FewFolds.{dilation-one, erosion-one}
+use Rattle.morphology.proofs.Dilations.{dilation-n-accepted, Sum, accepted-sum, dilating}
 
 -- ---- the set
 
@@ -44,15 +46,19 @@ closed-own p f s =
 
 -- ---- the call
 
--- what an accepted dilation hands back, exact or filled, eroded by the same element
-pub erosion-of-dilation : (p f : Octagon) (d : Marked) → dilation p f ≡ accepted d → erosion (d .octagon) f ≡ normalised p
-unfolding erosion
-erosion-of-dilation p f d q = go (own-form (dilation-accepted p f d q .covers)) (accepted-sum p f d q)
+-- what an accepted n-fold dilation hands back, exact or filled, eroded n times by the same element
+pub erosion-n-of-dilation : (p f : Octagon) (n : ℕ) (d : Marked) → dilation-n p f n ≡ accepted d → erosion-n (d .octagon) f n ≡ normalised p
+unfolding erosion-n
+erosion-n-of-dilation p f n d q = go (own-form (dilation-n-accepted p f n d q .covers)) (accepted-sum p f n d q)
   where
-    go : normalised (d .octagon) ≡ accepted (d .octagon) → Sum p f (d .octagon) → erosion (d .octagon) f ≡ normalised p
+    go : normalised (d .octagon) ≡ accepted (d .octagon) → Sum p f n (d .octagon) → erosion-n (d .octagon) f n ≡ normalised p
     go e s =
         let h = s .operands in
-        rw (e, h .of-f, s .is-sums, sums-back (s .a) (s .b), normalised-again p (s .a) (h .of-p), h .of-p) refl
+        rw (s .few, e, h .of-f, s .is-sums, sums-back (s .a) (multiples n (s .b)), normalised-again p (s .a) (h .of-p), h .of-p) refl
+
+-- once
+pub erosion-of-dilation : (p f : Octagon) (d : Marked) → dilation p f ≡ accepted d → erosion (d .octagon) f ≡ normalised p
+erosion-of-dilation p f d q = sym (erosion-one (d .octagon) f) ∙ erosion-n-of-dilation p f 1 d (dilation-one p f ∙ q)
 
 module _ (p f : Octagon) where
   -- so the erosion is accepted, with the cells of definition 2.15
@@ -61,7 +67,7 @@ module _ (p f : Octagon) where
 
   again : (d : Marked) → dilation p f ≡ accepted d → Eroded-again d
   again d q =
-      let s = accepted-sum p f d q in
+      let s = accepted-sum p f 1 d (dilation-one p f ∙ q) in
       let h = s .operands in
       let r = accepted-means f (s .b) (h .of-f) in
       let c = closed-own p f (same-some (r .cells) (r .is-normalised .some)) in

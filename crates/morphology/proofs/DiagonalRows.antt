@@ -1,14 +1,14 @@
 -- Diagonal rows: the tests on normal bounds say what document 01 says of cells. Assumes nothing.
-use mathlib.Core.Path.{_≡_, refl, sym, _∙_}
+use mathlib.Core.Path.{_≡_, sym, _∙_}
 use mathlib.Core.Logic.{_↔_, _⊎_, inl, inr}
-use mathlib.Core.Bool.{Bool, true, false, _&&_, _||_}
+use mathlib.Core.Bool.{Bool, true, false, _&&_}
 use native.Mathlib.Omega.{arith}
 use lib.IntN.{ℤ, pos, _+ℤ_}
 use lib.Signed.{leZ}
 use Rattle.integers.proofs.Parts.{up, dn, sum-parts, diff-parts, eq-parts}
 use Rattle.integers.proofs.Linear.{Diff, #, _⊕_, lit, _≼_, same}
 use Rattle.integers.proofs.Between.{decide}
-use Rattle.integers.proofs.Tests.{both-true, and-true, test-le, le-test, true-is-not-false}
+use Rattle.integers.proofs.Tests.{both-true, and-true, or-either, either-or, test-le, le-test, true-is-not-false}
 use Rattle.octagon.specs.declared.Octagon.{Octagon}
 use Rattle.octagon.specs.Cells.{In, Normalised}
 use Rattle.octagon.proofs.Within.{Within, Normal, within, cell-in}
@@ -96,18 +96,6 @@ cells-falling c n r =
 
 -- ---- one of each kind
 
-or-either : (a b : Bool) → (a || b) ≡ true → (a ≡ true) ⊎ (b ≡ true)
-or-either true b h = inl refl
-or-either false b h = inr h
-
-either-or : (a b : Bool) → (a ≡ true) ⊎ (b ≡ true) → (a || b) ≡ true
-either-or a b (inl p) = rw p refl
-either-or a b (inr q) = rw q (true-right a)
-  where
-    true-right : (a : Bool) → (a || true) ≡ true
-    true-right true = refl
-    true-right false = refl
-
 -- the test is true exactly for rows of which one is of each kind
 pub opposed-rows-test : (a b : Octagon) → Normalised a → Normalised b → (are-opposed a b ≡ true) ↔ OpposedRows (In a) (In b)
 unfolding are-opposed is-rising is-falling
@@ -150,3 +138,14 @@ not-opposed a b h o = true-is-not-false (sym (either-or (is-rising a && is-falli
 pub not-opposed′ : (a b : Octagon) → are-opposed a b ≡ false → ¬ (Opposed b a)
 unfolding are-opposed
 not-opposed′ a b h o = true-is-not-false (sym (either-or (is-rising a && is-falling b) (is-falling a && is-rising b) (inr (and-comm (is-rising b) (is-falling a) (opposed-true b a o)))) ∙ h)
+
+-- and cells of bounds that are not opposed are no opposed rows
+pub not-opposed-rows : (a b : Octagon) → Normal a → Normal b → ¬ (Opposed a b) → ¬ (Opposed b a) → ¬ (OpposedRows (In a) (In b))
+not-opposed-rows a b n k o o′ (inl r) =
+    let l = cells-rising a n (r .0) in
+    let m = cells-falling b k (r .1) in
+    o (record { a15 = l .one-line; a37 = l .many; e37 = m .one-line; e15 = m .many })
+not-opposed-rows a b n k o o′ (inr r) =
+    let l = cells-falling a n (r .0) in
+    let m = cells-rising b k (r .1) in
+    o′ (record { a15 = m .one-line; a37 = m .many; e37 = l .one-line; e15 = l .many })

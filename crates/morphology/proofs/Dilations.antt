@@ -1,5 +1,5 @@
 -- The answers of `dilate_n` and `dilate`, each with the case of documents 01 and 02 in which it is given. Assumes nothing.
-use mathlib.Core.Path.{_≡_, sym, _∙_, ap}
+use mathlib.Core.Path.{_≡_, refl, sym, _∙_, ap}
 use mathlib.Core.Logic.{_↔_}
 use mathlib.Core.Bool.{Bool, true, false, cond}
 use Prim.Native.Nat.{ℕ, _≤_}
@@ -65,6 +65,38 @@ dilation-n-accepted p f n m q = spreading m (later (after-operands (later (dilat
 pub dilation-n-filled : (p f : Octagon) (n : ℕ) (m : Marked) → dilation-n p f n ≡ accepted m → (m .is-filled ≡ true) ↔ NoOctagon (DilatedTimes n (In p) (In f))
 dilation-n-filled p f n m q = filled-exactly m (dilation-n-accepted p f n m q) (λ t. opposed-times-no-octagon p f n (t .0) (t .1))
 
+-- and its bounds: the sums of the operands' normal forms, the second's n times
+pub record Sum (p f : Octagon) (n : ℕ) (d : Octagon) : Type 0 where
+  pub a : Octagon
+  pub b : Octagon
+  pub few : ltb fold-limit n ≡ false
+  pub operands : Accepted p f a b
+  pub is-sums : d ≡ sums a (multiples n b)
+
+pub accepted-sum : (p f : Octagon) (n : ℕ) (m : Marked) → dilation-n p f n ≡ accepted m → Sum p f n (m .octagon)
+unfolding dilation-n placed
+accepted-sum p f n m q =
+    let k = cond-accepted (ltb fold-limit n) _ _ m q in
+    let s = then-accepted (normalised p) _ m (k .1) in
+    let t = then-accepted (normalised f) _ m (s .second) in
+    let e = sums (s .between) (multiples n (t .between)) in
+    let u = then-accepted (placed e) _ m (t .second) in
+    record {
+      a = s .between;
+      b = t .between;
+      few = k .0;
+      operands = record { of-p = s .first; of-f = t .first };
+      is-sums = ap (λ n. n .octagon) (sym (accepted-same (u .second))) ∙ told-sum (is-on-map e) _ e (u .between) (u .first);
+    }
+  where
+    cond-accepted : (t : Bool) (k : ℕ) (o : Outcome Marked) (m : Marked) → cond t (refused k) o ≡ accepted m → (t ≡ false) × (o ≡ accepted m)
+    cond-accepted true k o m q = absurd (accepted-not-refused (sym q))
+    cond-accepted false k o m q = (refl, q)
+
+    told-sum : (t : Bool) (k : ℕ) (e d : Octagon) → cond t (accepted e) (refused k) ≡ accepted d → d ≡ e
+    told-sum true k e d q = sym (accepted-same q)
+    told-sum false k e d q = absurd (accepted-not-refused (sym q))
+
 -- ---- one fold
 
 pub dilating : (p f : Octagon) → Dilating p f (dilation p f)
@@ -82,28 +114,3 @@ dilation-accepted p f m q = spreading m (later (after-operands (dilation-exactly
 -- filled exactly where no octagon has just the sums as its cells
 pub dilation-filled : (p f : Octagon) (m : Marked) → dilation p f ≡ accepted m → (m .is-filled ≡ true) ↔ NoOctagon (Dilated (In p) (In f))
 dilation-filled p f m q = filled-exactly m (dilation-accepted p f m q) (opposed-no-octagon p f)
-
--- and its bounds: the sums of the operands' normal forms
-pub record Sum (p f d : Octagon) : Type 0 where
-  pub a : Octagon
-  pub b : Octagon
-  pub operands : Accepted p f a b
-  pub is-sums : d ≡ sums a b
-
-pub accepted-sum : (p f : Octagon) (m : Marked) → dilation p f ≡ accepted m → Sum p f (m .octagon)
-unfolding dilation placed
-accepted-sum p f m q =
-    let s = then-accepted (normalised p) _ m q in
-    let t = then-accepted (normalised f) _ m (s .second) in
-    let e = sums (s .between) (t .between) in
-    let u = then-accepted (placed e) _ m (t .second) in
-    record {
-      a = s .between;
-      b = t .between;
-      operands = record { of-p = s .first; of-f = t .first };
-      is-sums = ap (λ n. n .octagon) (sym (accepted-same (u .second))) ∙ told-sum (is-on-map e) _ e (u .between) (u .first);
-    }
-  where
-    told-sum : (t : Bool) (k : ℕ) (e d : Octagon) → cond t (accepted e) (refused k) ≡ accepted d → d ≡ e
-    told-sum true k e d q = sym (accepted-same q)
-    told-sum false k e d q = absurd (accepted-not-refused (sym q))

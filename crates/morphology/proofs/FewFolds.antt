@@ -8,6 +8,7 @@ use Rattle.octagon.proofs.NormalForms.{accepted-near, normalised-again}
 use Rattle.morphology.specs.Marks.{exact}
 use Rattle.morphology.specs.Operations.{sums, differences, dilation, erosion}
 use Rattle.morphology.specs.Folds.{multiples, dilation-n, erosion-n}
+use Rattle.morphology.specs.Premises.{erosions, erosions-n}
 use Rattle.morphology.proofs.Multiples.{sums-zero, sums-suc, differences-zero, differences-suc}
 
 -- the bounds of one fold
@@ -25,6 +26,9 @@ dilation-one p f = simp sums-one
 pub erosion-one : (p f : Octagon) → erosion-n p f 1 ≡ erosion p f
 unfolding erosion-n erosion
 erosion-one p f = simp differences-one
+
+pub erosions-one : (p f g : Octagon) → erosions-n p f 1 g 1 ≡ erosions p f g
+erosions-one p f g = simp erosion-one
 
 -- no folds: the first operand, normalised, where both are accepted
 module _ (p f a b : Octagon) (h : normalised p ≡ accepted a) (k : normalised f ≡ accepted b) where

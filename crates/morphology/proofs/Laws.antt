@@ -6,22 +6,24 @@ use mathlib.Core.Logic.{_↔_, _⊎_, inl, inr}
 use native.Mathlib.Omega.{arith}
 use Rattle.octagon.specs.declared.Octagon.{Octagon}
 use Rattle.octagon.specs.Outcome.{Outcome, accepted, refused, then}
-use Rattle.octagon.specs.Cells.{Cells, _⊆_, _≐_, Some, In}
+use Rattle.octagon.specs.Cells.{_⊆_, Some, In}
 use Rattle.octagon.specs.NormalForm.{normalised}
-use Rattle.octagon.proofs.Outcomes.{accepted-same, refused-same, accepted-not-refused}
+use Rattle.octagon.proofs.Outcomes.{accepted-same}
 use Rattle.morphology.specs.Sets.{Dilated, Eroded}
 use Rattle.morphology.specs.Marks.{Marked}
 use Rattle.morphology.specs.Operations.{nothing-left, dilation, erosion, opened}
 use Rattle.morphology.specs.Premises.{Allowed, erosions, AllowedTwice, erosion-by-both, AllowedByBoth, LiesIn, Returned}
 use Rattle.morphology.specs.Cases.{fails, passes, stands}
 use Rattle.morphology.proofs.Handed.{own-form, covers-some, represents-covers}
-use Rattle.morphology.proofs.Decided.{Decided, decided-same, decided-by, erosion-decided, dilation-allowed}
-use Rattle.morphology.proofs.SetLaws.{same-refl, same-sym, same-trans, eroded-same, eroded-twice, eroded-empty, dilated-comm, adjunction}
+use Rattle.morphology.proofs.Decided.{accepted-allowed, nothing-allowed, Decided, decided-same, decided-by, erosion-decided, dilation-allowed}
+use Rattle.morphology.proofs.SetLaws.{same-refl, same-trans, some-there, eroded-same, eroded-twice, eroded-swap, eroded-empty, adjunction}
 use Rattle.morphology.proofs.Fillings.{eroded-by-smallest}
+use Rattle.morphology.proofs.FewFolds.{dilation-one, erosion-one, erosions-one}
 use Rattle.morphology.proofs.Dilations.{dilation-accepted, accepted-sum}
 use Rattle.morphology.proofs.Erosions.{erosion-accepted, erosion-nothing}
 use Rattle.morphology.proofs.Openings.{opened-inside, opening-steps, opening-accepted}
 use Rattle.morphology.proofs.Closings.{erosion-of-dilation}
+use Rattle.morphology.proofs.FoldedErosions.{erosions-n-commute}
 
 -- ---- eroding twice, and once
 
@@ -34,7 +36,7 @@ erosions-decided p f g s t u a = go (erosion-decided p f s t (a .first)) refl
         Decided (Eroded (Eroded (In p) (In f)) (In g)) (then o (λ e. erosion e g))
     go (passes _ (stands {a = e} r)) q =
         decided-by (eroded-same (r .cells) (same-refl (In g))) (erosion-decided e g (r .is-normalised .some) u (a .second e q))
-    go (fails h) q = fails (eroded-empty (Eroded (In p) (In f)) (In g) h u)
+    go (fails h) q = fails (eroded-empty h (some-there u))
 
 -- the answer of eroding by both is decided by the set eroded by the dilation
 by-both-decided : (p f g : Octagon) → Some (In p) → Some (In f) → Some (In g) → AllowedByBoth p f g →
@@ -45,16 +47,13 @@ by-both-decided p f g s t u a =
     rw (r .1)
     (decided-by (eroded-by-smallest p (c .smallest)) (erosion-decided p (r .0 .octagon) s (covers-some c) (a .second (r .0) (r .1))))
 
--- eroded twice in the other order
-twice-swapped : (A B C : Cells) → Eroded (Eroded A B) C ≐ Eroded (Eroded A C) B
-twice-swapped A B C =
-    same-trans (eroded-twice A B C) (same-trans (eroded-same (same-refl A) (dilated-comm B C)) (same-sym (eroded-twice A C B)))
-
 -- "Trimming by one frame and then another gives the same answer in either order, .. nothing left included."
 pub erosions-commute : (p f g : Octagon) → Some (In p) → Some (In f) → Some (In g) → AllowedTwice p f g → AllowedTwice p g f →
     erosions p f g ≡ erosions p g f
 erosions-commute p f g s t u a b =
-    decided-same (twice-swapped (In p) (In f) (In g)) (erosions-decided p f g s t u a) (erosions-decided p g f s u t b)
+    sym (erosions-one p f g)
+    ∙ erosions-n-commute p f 1 g 1 s t u (omega arith) (omega arith) (rw (erosion-one p f) (a .first)) (rw (erosion-one p g) (b .first))
+    ∙ erosions-one p g f
 
 -- ".. and the same as one trim by the two frames spread together, whichever is put first, nothing left included."
 pub erosions-by-both : (p f g : Octagon) → Some (In p) → Some (In f) → Some (In g) → AllowedTwice p f g → AllowedByBoth p f g →
@@ -65,7 +64,7 @@ erosions-by-both p f g s t u a b =
 pub erosions-by-both′ : (p f g : Octagon) → Some (In p) → Some (In f) → Some (In g) → AllowedTwice p f g → AllowedByBoth p g f →
     erosions p f g ≡ erosion-by-both p g f
 erosions-by-both′ p f g s t u a b =
-    decided-same (same-trans (twice-swapped (In p) (In f) (In g)) (eroded-twice (In p) (In g) (In f)))
+    decided-same (same-trans (eroded-swap (In p) (In f) (In g)) (eroded-twice (In p) (In g) (In f)))
     (erosions-decided p f g s t u a) (by-both-decided p g f s u t b)
 
 -- ---- what lies in a plot
@@ -98,7 +97,7 @@ lies-in x f p s t u a b =
 pub returns-plot : (p f : Octagon) → Some (In p) → Some (In f) → Allowed (dilation p f) → Returned p f
 returns-plot p f s t a =
     let r = dilation-allowed p f s t a in
-    let m = accepted-sum p f (r .0) (r .1) in
+    let m = accepted-sum p f 1 (r .0) (dilation-one p f ∙ r .1) in
     record {
       spread = r .0;
       spread-accepted = r .1;
@@ -108,13 +107,6 @@ returns-plot p f s t a =
     }
 
 -- ---- the laws' words at calls that are accepted
-
--- an accepted call is allowed, and so is one that says that nothing is left
-pub accepted-allowed : {R : Type 0} {o : Outcome R} {a : R} → o ≡ accepted a → Allowed o
-accepted-allowed e q = accepted-not-refused (sym e ∙ q)
-
-pub nothing-allowed : {R : Type 0} {o : Outcome R} → o ≡ refused nothing-left → Allowed o
-nothing-allowed e q = let n = refused-same (sym e ∙ q) in omega (arith, n)
 
 -- "Containment in an octagon reads the same for filled spreads."
 pub contained : (x f p : Octagon) → Some (In x) → Some (In f) → Some (In p) → (d : Marked) (e : Octagon) → dilation x f ≡ accepted d → erosion p f ≡ accepted e →

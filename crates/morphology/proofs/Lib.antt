@@ -20,6 +20,10 @@ pub mod Openings
 pub mod Closings
 pub mod Forms
 pub mod Decided
+pub mod FoldedErosions
+pub mod FoldedDilations
+pub mod FoldedMarks
+pub mod ComputedFolds
 pub mod Laws
 pub mod Calls
 pub mod Widths

@@ -1,7 +1,7 @@
 -- n-fold dilations and erosions of octagons by their bounds: n times the element's bounds, added or taken away. Assumes nothing.
 use mathlib.Core.Path.{_≡_}
-use Prim.Native.Nat.{ℕ, zero, suc, _≤_}
-use native.Mathlib.Nat.{zero-mul}
+use Prim.Native.Nat.{ℕ, zero, suc, _+_, _≤_}
+use native.Mathlib.Nat.{zero-mul, add-zero, add-suc}
 use native.Mathlib.Omega.{arith}
 use lib.IntN.{ℤ, pos, _*ℤ_}
 use Rattle.integers.proofs.Parts.{up, dn}
@@ -82,6 +82,11 @@ module _ (n : ℕ) (a b : Octagon) where
       let d = differences a m in
       addend-same (differences a m′) m′ (differences d b) a (differing a m′) (summed-less a m b m′ d (differences d b) (differing a m) (multiples-suc n b) (differing d b))
 
+-- m folds and then n are m + n folds
+pub sums-add : (m n : ℕ) (a b : Octagon) → sums (sums a (multiples m b)) (multiples n b) ≡ sums a (multiples (m + n) b)
+sums-add m zero a b = rw (add-zero m, sums-zero (sums a (multiples m b)) b)
+sums-add m (suc n) a b = rw (add-suc m n, sums-suc n (sums a (multiples m b)) b, sums-add m n a b, ← sums-suc (m + n) a b)
+
 -- ---- sets
 
 -- one dilation more: after the first no rows are opposed
@@ -94,13 +99,18 @@ multiples-normal (suc n) a b h k =
     let s = sums a (multiples n b) in
     rw (sums-suc n a b) (summed-normal s b (sums s b) (summed s b) (multiples-normal n a b h k) k)
 
+pub opposed-after : (n : ℕ) (a b : Octagon) → Normal a → Normal b → 1 ≤ n →
+    ¬ (Opposed (sums a (multiples n b)) b) × ¬ (Opposed b (sums a (multiples n b)))
+opposed-after zero a b h k l = absurd (omega arith)
+opposed-after (suc n) a b h k l =
+    let s = sums a (multiples n b) in
+    rw (sums-suc n a b) (never-opposed s b (sums s b) (multiples-normal n a b h k) k (summed s b))
+
 -- after n folds the octagon is not opposed to the element, if it was not so before
 opposed-later : (n : ℕ) (a b : Octagon) → Normal a → Normal b → ¬ (Opposed a b) → ¬ (Opposed b a) →
     ¬ (Opposed (sums a (multiples n b)) b) × ¬ (Opposed b (sums a (multiples n b)))
 opposed-later zero a b h k o o′ = rw (sums-zero a b) (o, o′)
-opposed-later (suc n) a b h k o o′ =
-    let s = sums a (multiples n b) in
-    rw (sums-suc n a b) (never-opposed s b (sums s b) (multiples-normal n a b h k) k (summed s b))
+opposed-later (suc n) a b h k o o′ = opposed-after (suc n) a b h k (omega arith)
 
 -- the n-fold dilation of normal bounds that are not opposed, and of any where n is 0
 pub multiples-dilate : (n : ℕ) (a b : Octagon) → Normal a → Normal b → (1 ≤ n → ¬ (Opposed a b) × ¬ (Opposed b a)) →

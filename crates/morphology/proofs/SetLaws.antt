@@ -1,7 +1,8 @@
 -- Laws of dilation and erosion on sets of cells. Assumes nothing.
 use mathlib.Core.Path.{_≡_, refl}
 use mathlib.Core.Logic.{_↔_}
-use Prim.Native.Nat.{ℕ, zero, suc}
+use Prim.Native.Nat.{ℕ, zero, suc, _+_}
+use native.Mathlib.Nat.{add-zero, add-suc}
 use lib.IntN.{ℤ, _+ℤ_, +ℤ-assoc, +ℤ-comm}
 use Rattle.octagon.specs.Cells.{Cells, _⊆_, _≐_, Empty, Some, LeavesMap}
 use Rattle.morphology.specs.Sets.{Dilated, Eroded, DilatedTimes, ErodedTimes}
@@ -19,6 +20,10 @@ same-trans e f x y = (λ a. f x y .0 (e x y .0 a), λ c. e x y .1 (f x y .1 c))
 
 pub same-empty : {A B : Cells} → A ≐ B → Empty A → Empty B
 same-empty e h x y b = h x y (e x y .1 b)
+
+-- a set with a cell is not empty
+pub some-there : {A : Cells} → Some A → ¬ (Empty A)
+some-there s h = h (s .x) (s .y) (s .cell)
 
 unfoldable pub same-some : {A B : Cells} → A ≐ B → Some A → Some B
 same-some e s = record { x = s .x; y = s .y; cell = e (s .x) (s .y) .0 (s .cell) }
@@ -62,6 +67,16 @@ dilated-times-same (suc n) e f = dilated-same (dilated-times-same n e f) f
 pub eroded-times-same : (n : ℕ) {A B C D : Cells} → A ≐ C → B ≐ D → ErodedTimes n A B ≐ ErodedTimes n C D
 eroded-times-same zero e f = e
 eroded-times-same (suc n) e f = eroded-same (eroded-times-same n e f) f
+
+-- ---- folds add up
+
+pub dilated-times-add : (m n : ℕ) (A B : Cells) → DilatedTimes n (DilatedTimes m A B) B ≐ DilatedTimes (m + n) A B
+dilated-times-add m zero A B = rw (add-zero m) (same-refl (DilatedTimes m A B))
+dilated-times-add m (suc n) A B = rw (add-suc m n) (dilated-same (dilated-times-add m n A B) (same-refl B))
+
+pub eroded-times-add : (m n : ℕ) (A B : Cells) → ErodedTimes n (ErodedTimes m A B) B ≐ ErodedTimes (m + n) A B
+eroded-times-add m zero A B = rw (add-zero m) (same-refl (ErodedTimes m A B))
+eroded-times-add m (suc n) A B = rw (add-suc m n) (eroded-same (eroded-times-add m n A B) (same-refl B))
 
 -- ---- the two operations together
 
@@ -139,6 +154,23 @@ adjunction X A B = (to, from)
     from : X ⊆ Eroded A B → Dilated X B ⊆ A
     from h x y d = rw (← d .sum-x, ← d .sum-y) (h (d .ax) (d .ay) (d .of-a) (d .bx) (d .by) (d .of-b))
 
--- what is left of nothing is nothing
-pub eroded-empty : (A B : Cells) → Empty A → Some B → Empty (Eroded A B)
-eroded-empty A B h s x y e = h (x +ℤ s .x) (y +ℤ s .y) (e (s .x) (s .y) (s .cell))
+-- so erosions by two sets may be made in either order, and by one of them k times and the other m times
+pub eroded-swap : (A B C : Cells) → Eroded (Eroded A B) C ≐ Eroded (Eroded A C) B
+eroded-swap A B C =
+    same-trans (eroded-twice A B C) (same-trans (eroded-same (same-refl A) (dilated-comm B C)) (same-sym (eroded-twice A C B)))
+
+eroded-past-one : (A B C : Cells) (k : ℕ) → ErodedTimes k (Eroded A C) B ≐ Eroded (ErodedTimes k A B) C
+eroded-past-one A B C zero = same-refl (Eroded A C)
+eroded-past-one A B C (suc k) = same-trans (eroded-same (eroded-past-one A B C k) (same-refl B)) (eroded-swap (ErodedTimes k A B) C B)
+
+pub eroded-past : (A B C : Cells) (k m : ℕ) → ErodedTimes k (ErodedTimes m A C) B ≐ ErodedTimes m (ErodedTimes k A B) C
+eroded-past A B C k zero = same-refl (ErodedTimes k A B)
+eroded-past A B C k (suc m) = same-trans (eroded-past-one (ErodedTimes m A C) B C k) (eroded-same (eroded-past A B C k m) (same-refl C))
+
+-- what is left of nothing is nothing, after one fold and after n
+pub eroded-empty : {A B : Cells} → Empty A → ¬ (Empty B) → Empty (Eroded A B)
+eroded-empty h s x y e = s (λ v w b. h (x +ℤ v) (y +ℤ w) (e v w b))
+
+pub eroded-times-empty : (n : ℕ) {A B : Cells} → Empty A → ¬ (Empty B) → Empty (ErodedTimes n A B)
+eroded-times-empty zero h s = h
+eroded-times-empty (suc n) h s = eroded-empty (eroded-times-empty n h s) s

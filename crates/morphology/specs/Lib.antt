@@ -2,6 +2,6 @@
 pub mod Sets
 pub mod Marks
 pub mod Operations
-pub mod Premises
 pub mod Folds
+pub mod Premises
 pub mod Cases

@@ -1,13 +1,15 @@
--- The words of the laws of demand 3 ("What the laws compare" of document 01): what they ask of the calls that they name, and what
--- the two with several parts say. Assumes nothing.
+-- The words of the laws of demand 3 ("What the laws compare" of document 01) and of document 02's U7: what they ask of the calls that they
+-- name, and what those with several parts say. Assumes nothing.
 use mathlib.Core.Path.{_≡_}
 use mathlib.Core.Logic.{_↔_, _⊎_}
+use Prim.Native.Nat.{ℕ}
 use Rattle.octagon.specs.declared.Octagon.{Octagon}
 use Rattle.octagon.specs.Outcome.{Outcome, accepted, refused, then, off-map}
 use Rattle.octagon.specs.Cells.{_⊆_, In}
 use Rattle.octagon.specs.NormalForm.{normalised}
 use Rattle.morphology.specs.Marks.{Marked}
 use Rattle.morphology.specs.Operations.{nothing-left, dilation, erosion}
+use Rattle.morphology.specs.Folds.{dilation-n, erosion-n}
 
 -- a call that is not refused as off the map
 abbrev pub Allowed : {R : Type 0} → Outcome R → Type 0
@@ -46,3 +48,13 @@ pub record Returned (p f : Octagon) : Type 0 where
   pub plot : Octagon
   pub plot-normalised : normalised p ≡ accepted plot
   pub returned : erosion (spread .octagon) f ≡ accepted plot
+
+-- ---- folds one after the other (U7: "two frames, then three")
+
+-- dilating m times by f, and then what came of it n times, with the mark of the second call; a refusal of the first is the answer of the two
+abbrev pub dilations-n : Octagon → Octagon → ℕ → ℕ → Outcome Marked
+dilations-n p f m n = then (dilation-n p f m) (λ d. dilation-n (d .octagon) f n)
+
+-- eroding m times by f, and then what is left n times by g; where the first gives 5, that is the answer of the two
+abbrev pub erosions-n : Octagon → Octagon → ℕ → Octagon → ℕ → Outcome Octagon
+erosions-n p f m g n = then (erosion-n p f m) (λ e. erosion-n e g n)
