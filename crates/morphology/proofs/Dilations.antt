@@ -1,5 +1,5 @@
 -- The answers of `dilate_n` and `dilate`, each with the case of documents 01 and 02 in which it is given. Assumes nothing.
-use mathlib.Core.Path.{_≡_, refl, sym, _∙_, ap}
+use mathlib.Core.Path.{_≡_, sym, _∙_, ap}
 use mathlib.Core.Logic.{_↔_}
 use mathlib.Core.Bool.{Bool, true, false, cond}
 use Prim.Native.Nat.{ℕ, _≤_}
@@ -11,7 +11,7 @@ use Rattle.octagon.specs.declared.Octagon.{Octagon}
 use Rattle.octagon.specs.Outcome.{Outcome, accepted, refused}
 use Rattle.octagon.specs.Cells.{_≐_, In}
 use Rattle.octagon.specs.NormalForm.{normalised, placed, is-on-map}
-use Rattle.octagon.proofs.Outcomes.{accepted-same, accepted-not-refused, then-accepted}
+use Rattle.octagon.proofs.Outcomes.{accepted-same, accepted-not-refused, past-test, then-accepted}
 use Rattle.morphology.specs.Sets.{Dilated, DilatedTimes, OpposedRows}
 use Rattle.morphology.specs.Marks.{Marked}
 use Rattle.morphology.specs.Operations.{sums, are-opposed, dilation}
@@ -76,7 +76,7 @@ pub record Sum (p f : Octagon) (n : ℕ) (d : Octagon) : Type 0 where
 pub accepted-sum : (p f : Octagon) (n : ℕ) (m : Marked) → dilation-n p f n ≡ accepted m → Sum p f n (m .octagon)
 unfolding dilation-n placed
 accepted-sum p f n m q =
-    let k = cond-accepted (ltb fold-limit n) _ _ m q in
+    let k = past-test (ltb fold-limit n) _ _ m q in
     let s = then-accepted (normalised p) _ m (k .1) in
     let t = then-accepted (normalised f) _ m (s .second) in
     let e = sums (s .between) (multiples n (t .between)) in
@@ -89,10 +89,6 @@ accepted-sum p f n m q =
       is-sums = ap (λ n. n .octagon) (sym (accepted-same (u .second))) ∙ told-sum (is-on-map e) _ e (u .between) (u .first);
     }
   where
-    cond-accepted : (t : Bool) (k : ℕ) (o : Outcome Marked) (m : Marked) → cond t (refused k) o ≡ accepted m → (t ≡ false) × (o ≡ accepted m)
-    cond-accepted true k o m q = absurd (accepted-not-refused (sym q))
-    cond-accepted false k o m q = (refl, q)
-
     told-sum : (t : Bool) (k : ℕ) (e d : Octagon) → cond t (accepted e) (refused k) ≡ accepted d → d ≡ e
     told-sum true k e d q = sym (accepted-same q)
     told-sum false k e d q = absurd (accepted-not-refused (sym q))

@@ -1,6 +1,7 @@
 -- Outcomes are told apart by their cases, and a step after another is taken apart. Assumes nothing.
 use mathlib.Core.Path.{_≡_, refl, sym, ap}
 use mathlib.Core.Logic.{_↔_, _⊎_, inl, inr}
+use mathlib.Core.Bool.{Bool, true, false, cond}
 use Prim.Native.Nat.{ℕ}
 use native.Mathlib.Omega.{arith}
 use Rattle.octagon.specs.Outcome.{Outcome, accepted, refused, then}
@@ -13,6 +14,11 @@ refused-same e = cc
 
 pub accepted-not-refused : {A : Type 0} {a : A} {n : ℕ} → accepted a ≡ refused n → ⊥
 accepted-not-refused e = let z : _≡_ {A = ℕ} 0 1 = cc in omega arith
+
+-- what is accepted after a test is not refused by it
+pub past-test : {A : Type 0} (t : Bool) (k : ℕ) (o : Outcome A) (a : A) → cond t (refused k) o ≡ accepted a → (t ≡ false) × (o ≡ accepted a)
+past-test true k o a e = absurd (accepted-not-refused (sym e))
+past-test false k o a e = (refl, e)
 
 -- two steps that are both accepted
 pub record Through {A B : Type 0} (o : Outcome A) (f : A → Outcome B) (b : B) : Type 0 where

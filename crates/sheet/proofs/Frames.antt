@@ -1,7 +1,7 @@
 -- The frame of a sheet, its length and its trailer: what each test says, that a frame is accepted exactly where it is good and refused
 -- exactly where it has a fault, and that its records then lie in the buffer. Assumes nothing.
 use mathlib.Core.Path.{_≡_, refl, sym, ap, _∙_}
-use mathlib.Core.Bool.{Bool, true, false, cond, not, _||_}
+use mathlib.Core.Bool.{true, false, not, _||_}
 use mathlib.Core.List.{List}
 use Prim.Native.Nat.{ℕ, _+_, _-_, _*_, _≤_}
 use native.Mathlib.Omega.{arith}
@@ -11,7 +11,7 @@ use lib.Dec.{ltb, eqb}
 use Rattle.integers.proofs.Tests.{cases, or-false, true-is-not-false}
 use borrow.Author.Tests.{ltb-false, le-ltb, eqb-true, eq-eqb, not-false}
 use Rattle.octagon.specs.Outcome.{Outcome, accepted, refused}
-use Rattle.octagon.proofs.Outcomes.{accepted-same, accepted-not-refused}
+use Rattle.octagon.proofs.Outcomes.{accepted-same, past-test}
 use Rattle.sheet.specs.declared.trailer.Trailer.{Trailer}
 use Rattle.sheet.specs.Layout.{base-length, IsRecordLength, is-record-length}
 use Rattle.sheet.specs.Trailer.{trailer-length, letters, trailer-at}
@@ -60,19 +60,14 @@ passes-distance len z h = rw (eq-eqb (z .distance) (z .length * z .count) (h .di
 
 -- ---- the frame
 
--- an accepted outcome past a test is none of its refusals
-pub past : {A : Type 0} (b : Bool) (k : ℕ) (o : Outcome A) (a : A) → cond b (refused k) o ≡ accepted a → (b ≡ false) × (o ≡ accepted a)
-past true k o a e = absurd (accepted-not-refused (sym e))
-past false k o a e = (refl, e)
-
 -- a frame is accepted exactly where it is good, with the trailer at its end
 pub framed-good : (s : List ℕ) (len : ℕ) (z : Trailer) → framed s len ≡ accepted z → GoodFrame s len (z .count) × (z ≡ trailer-at s (len - trailer-length))
 unfolding framed stated
 framed-good s len z e =
     let t = trailer-at s (len - trailer-length) in
-    let p = past (is-bad-length s len) bad-length _ z e in
-    let q = past (has-bad-marks t) bad-trailer _ z (p .1) in
-    let r = past (is-bad-distance len t) bad-distance _ z (q .1) in
+    let p = past-test (is-bad-length s len) bad-length _ z e in
+    let q = past-test (has-bad-marks t) bad-trailer _ z (p .1) in
+    let r = past-test (is-bad-distance len t) bad-distance _ z (q .1) in
     let f = accepted-same (r .1) in
     (record { size = good-length s len (p .0); marks = good-marks t (q .0); distance = good-distance len t (r .0); count = ap (λ (x : Trailer). x .count) f }, sym f)
 

@@ -11,7 +11,7 @@ use borrow.Author.Tests.{ltb-false, eqb-false}
 use Rattle.integers.proofs.Tests.{or-false}
 use Rattle.octagon.specs.declared.Octagon.{Octagon}
 use Rattle.octagon.specs.Outcome.{accepted, refused, then, left}
-use Rattle.octagon.proofs.Outcomes.{accepted-same}
+use Rattle.octagon.proofs.Outcomes.{accepted-same, past-test}
 use Rattle.outline.specs.Tracing.{traced}
 use Rattle.sheet.specs.declared.Record.{Record}
 use Rattle.sheet.specs.declared.trailer.Trailer.{Trailer}
@@ -24,7 +24,6 @@ use Rattle.sheet.specs.Checking.{parsed}
 use Rattle.sheet.specs.Writing.{written-over, written-length, with-plot, is-bad-number, has-no-room, admitted, insertion, inserted, after-insert, grown-length}
 use Rattle.sheet.proofs.Order.{length-put-in-order}
 use Rattle.sheet.proofs.Plots.{length-plots}
-use Rattle.sheet.proofs.Frames.{past}
 use Rattle.sheet.proofs.Checks.{Good}
 
 -- a sheet of n bytes that has room
@@ -60,8 +59,8 @@ module _ (s : List ℕ) (r : Record) (z : Sheet) where
   pub admitted-passed : (y : Sheet) → admitted s r z ≡ accepted y → Admitted × (y ≡ with-plot r z)
   unfolding admitted
   admitted-passed y e =
-      let p = past (is-bad-number (r .number) (z .plots)) bad-number _ y e in
-      let q = past (has-no-room s next-length) no-room (accepted (with-plot r z)) y (p .1) in
+      let p = past-test (is-bad-number (r .number) (z .plots)) bad-number _ y e in
+      let q = past-test (has-no-room s next-length) no-room (accepted (with-plot r z)) y (p .1) in
       let a = or-false (eqb (r .number) 0) (present (r .number) (z .plots)) (p .0) in
       let b = room-kept s next-length (q .0) in
       let n : r .number ≡ 0 → ⊥ = eqb-false (r .number) 0 (a .0) in (

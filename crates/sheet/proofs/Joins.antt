@@ -8,7 +8,7 @@ use Prim.Native.Nat.{ℕ, _-_, _≤_}
 use native.Mathlib.Omega.{arith}
 use lib.ListN.{length}
 use Rattle.octagon.specs.Outcome.{Outcome, accepted, refused, then, left}
-use Rattle.octagon.proofs.Outcomes.{accepted-same, then-accepted, map-accepted, map-refused}
+use Rattle.octagon.proofs.Outcomes.{accepted-same, past-test, then-accepted, map-accepted, map-refused}
 use Rattle.records.specs.Numbers.{AreBytes}
 use Rattle.records.specs.Parts.{part}
 use Rattle.sheet.specs.declared.Record.{Record}
@@ -24,7 +24,6 @@ use Rattle.sheet.specs.Cases.{stated-plots, IsFetched}
 use Rattle.sheet.specs.Writing.{written-over, written-length, has-no-room}
 use Rattle.sheet.specs.Joining.{union, united, joining, joined, after-join, joined-count, joined-length, JoinedSheet}
 use Rattle.sheet.proofs.Plots.{plots-fit}
-use Rattle.sheet.proofs.Frames.{past}
 use Rattle.sheet.proofs.Checks.{checked-count}
 use Rattle.sheet.proofs.Overwritten.{over-parsed, over-trailer, over-heading, over-past, over-length}
 use Rattle.sheet.proofs.Inserts.{room-kept}
@@ -62,8 +61,8 @@ module _ (u : List ℕ) (y z : Sheet) where
   unfolding united
   united-passed x e =
       let n = written-length (union y z) in
-      let p = past (conflict (y .plots) (z .plots)) two-records _ x e in
-      let q = past (has-no-room u n) no-room (accepted (union y z)) x (p .1) in
+      let p = past-test (conflict (y .plots) (z .plots)) two-records _ x e in
+      let q = past-test (has-no-room u n) no-room (accepted (union y z)) x (p .1) in
       let b = room-kept u n (q .0) in
       (record { agree = p .0; within = b .0; short = b .1 }, sym (accepted-same (q .1)))
 

@@ -8,7 +8,7 @@ use native.Mathlib.Omega.{arith}
 use lib.ListN.{length, take}
 use lib.Seq.{length-take-le}
 use Rattle.octagon.specs.Outcome.{Outcome, accepted, refused, then, left}
-use Rattle.octagon.proofs.Outcomes.{accepted-same, accepted-not-refused}
+use Rattle.octagon.proofs.Outcomes.{accepted-same, accepted-not-refused, past-test}
 use Rattle.sheet.specs.declared.trailer.Trailer.{Trailer}
 use Rattle.sheet.specs.declared.merge.Rows.{Rows}
 use Rattle.sheet.specs.Answers.{no-room, two-records}
@@ -20,7 +20,6 @@ use Rattle.sheet.specs.Rows.{all-rows, plots-in, RowsIn}
 use Rattle.sheet.specs.Checking.{inspected}
 use Rattle.sheet.specs.Writing.{written-over, written-length, has-no-room}
 use Rattle.sheet.specs.Joining.{sheet-under, union, united}
-use Rattle.sheet.proofs.Frames.{past}
 use Rattle.sheet.proofs.Checks.{inspected-good}
 use Rattle.sheet.proofs.Joins.{unite-differing, unite-room, unite-good}
 
@@ -58,7 +57,7 @@ module _ (s : List ℕ) (m : ℕ) (y : Trailer) (t : List ℕ) (n : ℕ) (z : Tr
 
   module _ (all : ℕ) (r : tallied (plots-in s a) (plots-in t b) ≡ accepted all) where
     agree : (conflict (one .plots) (other .plots) ≡ false) × (length (merged (one .plots) (other .plots)) ≡ all)
-    agree = let f = past (conflict (one .plots) (other .plots)) two-records (accepted (length (merged (one .plots) (other .plots)))) all (rw (p, q) at r) in (f .0, accepted-same (f .1))
+    agree = let f = past-test (conflict (one .plots) (other .plots)) two-records (accepted (length (merged (one .plots) (other .plots)))) all (rw (p, q) at r) in (f .0, accepted-same (f .1))
 
     pub tally-counts : all ≡ length (merged (plots-in s a) (plots-in t b))
     tally-counts = rw (p, q) (sym (agree .1))
