@@ -6,7 +6,7 @@
 
 uint64_t octagons_by_cells, pairs_by_cells, outlines_by_cells, splits_by_cells, trees_by_cells, listings, widened, joined, joined_once;
 uint64_t filled[SPREADS], filled_by_cells, filled_off_map;
-uint64_t in_two_calls, marks_differ, trims_off_map;
+uint64_t second_spreads, second_trims, marks_differ, trims_off_map;
 static uint64_t compared, accepted, seen[256];
 
 void differ(const char *call, const int32_t *p, const int32_t *f, uint32_t got, uint32_t want) {
@@ -61,7 +61,7 @@ int main(int argc, char **argv) {
     printf("inputs %llu, calls compared %llu, accepted %llu, no difference\n", (unsigned long long)(rounds + sheets + tapes + trees + joins), (unsigned long long)compared, (unsigned long long)accepted);
     printf("by sets of cells: octagons %llu, pairs %llu, outlines %llu, splits %llu, trees %llu\n", (unsigned long long)octagons_by_cells, (unsigned long long)pairs_by_cells, (unsigned long long)outlines_by_cells, (unsigned long long)splits_by_cells, (unsigned long long)trees_by_cells);
     printf("filled: dilate %llu, opening %llu, closing %llu, dilate_n %llu; by sets of cells %llu; refused as off the map %llu\n", (unsigned long long)filled[DILATE], (unsigned long long)filled[OPENING], (unsigned long long)filled[CLOSING], (unsigned long long)filled[DILATE_N], (unsigned long long)filled_by_cells, (unsigned long long)filled_off_map);
-    printf("folds in two calls %llu: marks that differ %llu, filled after no folds %llu, first trims off the map alone %llu\n", (unsigned long long)in_two_calls, (unsigned long long)marks_differ, (unsigned long long)filled[DILATE_M_N], (unsigned long long)trims_off_map);
+    printf("second calls: spreads %llu, of which filled %llu, and exact where one call is filled %llu; trims %llu; first trims off the map alone %llu\n", (unsigned long long)second_spreads, (unsigned long long)filled[DILATE_M_N], (unsigned long long)marks_differ, (unsigned long long)second_trims, (unsigned long long)trims_off_map);
     printf("rests that fit one pair alone");
     for (int i = 0; i < 8; i++)
         printf(" %llu", (unsigned long long)fit_alone[i]);

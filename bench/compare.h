@@ -59,9 +59,9 @@ extern uint64_t joined, joined_once;
  * spreads of opposed rows leave the map. */
 enum { DILATE, OPENING, CLOSING, DILATE_N, DILATE_M_N, SPREADS };
 extern uint64_t filled[SPREADS], filled_by_cells, filled_off_map;
-/* Folds that were made in two calls too: how many, how often one call is filled and the second of two is exact, and how often the first of
- * two trims leaves the map and one call does not. */
-extern uint64_t in_two_calls, marks_differ, trims_off_map;
+/* Folds that were made in two calls too: how many second calls were made, how often one call is filled and the second of two is exact, and
+ * how often the first of two trims leaves the map and one call does not. */
+extern uint64_t second_spreads, second_trims, marks_differ, trims_off_map;
 /* Writes the difference and ends the program. */
 void differ(const char *call, const int32_t *p, const int32_t *f, uint32_t got, uint32_t want);
 void count_answer(uint32_t number);

@@ -93,8 +93,11 @@ static void check_spreads(const int32_t p[8], const int32_t f[8], uint32_t m, ui
         differ("kx_dilate_n, the first of two", p, f, number, want.number);
     if (number)
         return;
+    if (first.filled && !want.filled)
+        differ("the marks of one spread and the first of two", p, f, first.filled, want.filled);
     marks_differ += first.filled && !want.number;
     want.filled &= !first.filled;
+    second_spreads++;
     check_spread(DILATE_M_N, p, f, kx_dilate_n(between, 8, f, 8, n - m, cleared(out), 8, no_mark(mark)), out, mark, &want);
 }
 
@@ -104,9 +107,10 @@ static void check_trims(const int32_t p[8], const int32_t f[8], uint32_t m, uint
     uint32_t number = kx_erode_n(p, 8, f, 8, m, cleared(between), 8);
     answer first = erosion_by_search(p, f, m);
     check("kx_erode_n", p, f, number, between, first);
-    if (!number)
+    if (!number) {
+        second_trims++;
         check("kx_erode_n after kx_erode_n", p, f, kx_erode_n(between, 8, f, 8, n - m, cleared(out), 8), out, *want);
-    else if (number == 2)
+    } else if (number == 2)
         trims_off_map += want->number != 2;
     else if (number != want->number)
         differ("kx_erode_n, the first of two", p, f, number, want->number);
@@ -117,7 +121,6 @@ static void check_two_calls(const int32_t p[8], const int32_t f[8], uint32_t n, 
     if (n <= FOLDS) {
         check_spreads(p, f, any() % (n + 1), n, r->dilation_n);
         check_trims(p, f, any() % (n + 1), n, &r->erosion_n);
-        in_two_calls += n > 0;
     }
 }
 

@@ -66,8 +66,8 @@ static uint32_t random_opposed(int32_t p[8], int32_t f[8]) {
     return n;
 }
 
-/* A plot of up to the whole map, half of them at one of its edges and narrower there, and a small element, which is often near (0, 0): up to
- * as many folds as the plot has columns, so that some leave a few cells, and some leave the map on the way. */
+/* A plot of up to the whole map, half of them at one of its edges and narrower there, and a small element, which is often near (0, 0): fewer
+ * folds than the plot has columns, so that some leave a few cells, and some leave the map on the way. */
 static uint32_t random_wide(int32_t p[8], int32_t f[8]) {
     int32_t size = from(40, LIMIT), away = any() % 2 ? LIMIT - size : from(size - LIMIT, LIMIT - size);
     int edge = 2 * (int)(any() % 4);

@@ -115,8 +115,9 @@ uint32_t kx_closing(const int32_t *plot, size_t plot_len, const int32_t *element
  *   erode_n            5, then 2, both for the final set
  * With n = 0 both give the plot, normalised, and dilate_n is exact.
  * Folds add up: with m + n up to KX_FOLD_LIMIT, m folds, and then n of what came of them, give the octagon of m + n folds or are refused as
- * these are, but that trims whose first call is refused with 2 may be accepted in one call. Each spread has its own mark: m + n folds are
- * filled exactly where one of the two calls is, and after one fold or more the second call is exact, whatever the first was. */
+ * these are; but where the first of two trims is refused with 2, one call may be accepted, or refused with 5. Each spread has its own mark:
+ * m + n folds are filled exactly where one of the two calls is, and after one fold or more the second call is exact, whatever the first
+ * was. */
 uint32_t kx_dilate_n(const int32_t *plot, size_t plot_len, const int32_t *element, size_t element_len, uint32_t n, int32_t *out, size_t out_len, uint32_t *mark);
 uint32_t kx_erode_n(const int32_t *plot, size_t plot_len, const int32_t *element, size_t element_len, uint32_t n, int32_t *out, size_t out_len);
 

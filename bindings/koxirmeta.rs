@@ -307,8 +307,8 @@ spreads! {
     dilate_n, kx_dilate_n, n
 }
 trims! {
-    /// The erosion n times by the same element. Folds add up as those of [`dilate_n`] do, but that trims whose first call is refused
-    /// with `OffMap` may be accepted in one call.
+    /// The erosion n times by the same element. Folds add up as those of [`dilate_n`] do; but where the first of two calls is refused
+    /// with `OffMap`, one call may be accepted, or refused with `NothingLeft`.
     ///
     /// Refusals: `TooManyFolds`, each operand's; then `NothingLeft` and `OffMap`, both for the final set.
     erode_n, kx_erode_n, n

@@ -367,21 +367,25 @@ def erosions(a, b, n):
     return found
 
 
+def moved(p, e, n):
+    """A set moved by n times the one cell of e, which is what n folds of it give, or -n trims."""
+    ((u, v),) = e
+    return {(x + n * u, y + n * v) for x, y in p}
+
+
 def most_sums(p, e, n):
     """The answer to so many spreads, some 65,535: the sums have p moved by that many times each cell of e."""
-    moved = [{(x + n * u, y + n * v) for x, y in p} for u, v in e]
     if len(e) == 1:
-        return accepted(moved[0])
-    assert any(is_off_map(some) for some in moved)
+        return accepted(moved(p, e, n))
+    assert any(is_off_map(moved(p, [cell], n)) for cell in e)
     return refused(2)
 
 
 def most_left(p, e, n):
     """The answer to so many trims, some 65,535: what is left lies in p moved back by that many times each cell of e."""
-    moved = [{(x - n * u, y - n * v) for x, y in p} for u, v in e]
     if len(e) == 1:
-        return trimmed(moved[0])
-    assert not set.intersection(*moved)
+        return trimmed(moved(p, e, -n))
+    assert not set.intersection(*(moved(p, [cell], -n) for cell in e))
     return refused(5)
 
 
@@ -409,10 +413,10 @@ def compare_spreads(p, e):
     most = most_sums(p, e, FOLDS)
     CALLS["dilate_n"].note(most)
     for m in range(5):
-        # few folds and then the rest, and the other way round: where the first call is refused, so are all folds
-        assert most_sums(p, e, FOLDS - m)[10] in (0, most[10]) and (2 if is_off_map(more[m]) else 0) in (0, most[10])
-        CALLS["dilate_m_n"].note(most)
-        CALLS["dilate_m_n"].note(most)
+        # few folds and then the rest, and the other way round
+        CALLS["dilate_m_n"].note(refused(2) if is_off_map(more[m]) else most_sums(smallest(more[m]), e, FOLDS - m))
+        first = most_sums(p, e, FOLDS - m)
+        CALLS["dilate_m_n"].note(first if first[10] else accepted(dilations(moved(p, e, FOLDS - m), e, m)[m]))
     CALLS["dilate_n"].note(refused(6))
 
 
@@ -426,10 +430,12 @@ def compare_trims(p, e):
                 CALLS["erode_m_n"].note(trimmed(left))
     most = most_left(p, e, FOLDS)
     CALLS["erode_n"].note(most)
-    for m, first in enumerate(less):
-        for answer in (trimmed(first), most_left(p, e, FOLDS - m)):
-            if answer[10] != 2:
-                CALLS["erode_m_n"].note(most)
+    for m, left in enumerate(less):
+        first, other = trimmed(left), most_left(p, e, FOLDS - m)
+        if first[10] != 2:
+            CALLS["erode_m_n"].note(first if first[10] else most_left(left, e, FOLDS - m))
+        if other[10] != 2:
+            CALLS["erode_m_n"].note(other if other[10] else trimmed(erosions(moved(p, e, m - FOLDS), e, m)[m]))
     CALLS["erode_n"].note(refused(6))
 
 

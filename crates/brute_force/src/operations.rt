@@ -42,7 +42,7 @@ fn agrees(bench: &Bench, call: usize, n: u32, plot: Octagon, element: Octagon) -
 
 // An operation beside what is expected of it.
 fn compare(bench: &mut Bench, call: usize, n: u32)
-    requires { ⌜ call < 14 ⌝ }
+    requires { ⌜ call < 12 ⌝ }
 {
     let plot = octagon(bench, OPERANDS);
     let element = octagon(bench, OPERANDS + 16);
@@ -51,7 +51,7 @@ fn compare(bench: &mut Bench, call: usize, n: u32)
 
 // An operation beside the result. Gives the refusal number, or 0.
 fn compare_result(bench: &mut Bench, call: usize, n: u32) -> usize
-    requires { ⌜ call < 14 ⌝ }
+    requires { ⌜ call < 12 ⌝ }
 {
     let number = answers::expect(bench, RESULT, NOTHING_LEFT);
     compare(bench, call, n);

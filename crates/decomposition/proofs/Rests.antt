@@ -2,8 +2,8 @@
 -- nothing.
 use mathlib.Core.Path.{_≡_, _∙_, sym}
 use Prim.Native.Nat.{ℕ, _+_, min, _≤_}
-use native.Mathlib.Decide.{decLe}
 use native.Mathlib.Omega.{arith}
+use Rattle.integers.proofs.Between.{if-any}
 use Rattle.outline.specs.declared.Outline.{Outline}
 use Rattle.outline.specs.Closing.{Closes}
 use Rattle.outline.specs.Sameness.{SameSides}
@@ -36,13 +36,6 @@ rest-closes : (o r : Outline) → RestOf o r → Closes o → Closes r
 rest-closes o r l c = omega arith
 
 -- ---- some case fits the rest
-
-if-any : {R : Type 0} (n : ℕ) → (1 ≤ n → R) → (n ≡ 0 → R) → R
-if-any {R} n f g = go (decLe 1 n)
-  where
-    go : Dec (1 ≤ n) → R
-    go (yes h) = f h
-    go (no h) = g (omega arith)
 
 half-fits : (r : Outline) → Half r → Closes r → FitsSome r
 half-fits r h c =

@@ -1,7 +1,8 @@
--- An integer that lies between lists of bounds, the half of a difference, and the choice between two orders.
--- Each hands the integer to a continuation, so that `omega` meets it as a plain variable. Assumes nothing.
+-- An integer that lies between lists of bounds, the half of a difference, the choice between two orders, and that between some and none.
+-- Each hands what it finds to a continuation, so that `omega` meets it as a plain variable. Assumes nothing.
+use mathlib.Core.Path.{_≡_}
 use mathlib.Core.List.{List, [], _∷_}
-use Prim.Native.Nat.{_+_, _/_, max}
+use Prim.Native.Nat.{ℕ, _+_, _/_, max, _≤_}
 use native.Mathlib.Decide.{decLe}
 use native.Mathlib.Omega.{arith}
 use lib.IntN.{ℤ}
@@ -61,5 +62,13 @@ pub decide : {R : Type 0} (a b : Diff) → (a ≼ b → R) → (b ⊕ lit 1 ≼ 
 decide {R} a b f g = go (decLe (a .p + b .n) (b .p + a .n))
   where
     go : Dec (a ≼ b) → R
+    go (yes h) = f h
+    go (no h) = g (omega arith)
+
+-- a number is 1 or more, or 0
+pub if-any : {R : Type 0} (n : ℕ) → (1 ≤ n → R) → (n ≡ 0 → R) → R
+if-any {R} n f g = go (decLe 1 n)
+  where
+    go : Dec (1 ≤ n) → R
     go (yes h) = f h
     go (no h) = g (omega arith)

@@ -46,10 +46,11 @@ either-or a b (inr q) = rw q (true-right a)
     true-right true = refl
     true-right false = refl
 
--- two tests that are true together are one
-pub both-or-neither : (a b : Bool) → (a ≡ true → b ≡ true) → (b ≡ true → a ≡ true) → a ≡ b
-both-or-neither true b f g = sym (f refl)
-both-or-neither false true f g = g refl
+-- two tests that pass together are equal
+pub both-or-neither : (a b : Bool) → (T a → T b) → (T b → T a) → a ≡ b
+both-or-neither true true f g = refl
+both-or-neither true false f g = absurd (f tt)
+both-or-neither false true f g = absurd (g tt)
 both-or-neither false false f g = refl
 
 pub and-true : {a b : Bool} → a ≡ true → b ≡ true → (a && b) ≡ true

@@ -1,5 +1,5 @@
--- Folds one after the other (document 02's U7), computed: a plot and an element whose bounds all differ, opposed rows, and what the laws ask
--- for, where it does not hold. The numbers were worked out from sets of cells. Assumes nothing.
+-- Folds one after the other (document 02's U7), computed: a plot and an element of eight different bounds each, opposed rows, and what the
+-- laws ask for, where it does not hold. The numbers were worked out from sets of cells. Assumes nothing.
 use mathlib.Core.Path.{_≡_, refl}
 use mathlib.Core.List.{[], _∷_}
 use lib.IntN.{ℤ, pos, negsuc}

@@ -104,7 +104,8 @@ pub spread-again : (p f : Octagon) (m n : ℕ) (d : Marked) → m + n ≤ fold-l
     unmarked (dilation-n (d .octagon) f n) ≡ unmarked (dilation-n p f (m + n))
 spread-again p f m n d l q = rw q at (dilations-add p f m n l)
 
--- so, of operands that hold a cell, where the call of m + n folds is not refused as off the map, all three calls are accepted, with one octagon
+-- so, of operands that hold a cell, where the call of m + n folds is not refused as off the map, all three calls are accepted, and the second
+-- gives the octagon of m + n folds
 pub spread-in-two : (p f : Octagon) (m n : ℕ) → Some (In p) → Some (In f) → m + n ≤ fold-limit → Allowed (dilation-n p f (m + n)) →
     (d : Marked) × (e : Marked) × (w : Marked) × (dilation-n p f m ≡ accepted d) × (dilation-n (d .octagon) f n ≡ accepted e) × (dilation-n p f (m + n) ≡ accepted w) × (e .octagon ≡ w .octagon)
 spread-in-two p f m n s t l a =

@@ -3,9 +3,10 @@
 use mathlib.Core.Path.{_≡_, refl, sym, _∙_, ap}
 use mathlib.Core.Logic.{_↔_, _⊎_, inl, inr}
 use mathlib.Core.Bool.{true, _||_}
-use Prim.Native.Nat.{ℕ, zero, suc, _+_, _≤_}
+use Prim.Native.Nat.{ℕ, _+_, _≤_}
 use native.Mathlib.Omega.{arith}
-use Rattle.integers.proofs.Tests.{cases, or-either, either-or, both-or-neither}
+use Rattle.integers.proofs.Between.{if-any}
+use Rattle.integers.proofs.Tests.{T-true, true-T, cases, or-either, either-or, both-or-neither}
 use Rattle.octagon.specs.declared.Octagon.{Octagon}
 use Rattle.octagon.specs.Outcome.{accepted}
 use Rattle.octagon.specs.Cells.{_≐_, In}
@@ -19,10 +20,6 @@ use Rattle.morphology.proofs.Multiples.{sums-zero, multiples-normal, op
 use Rattle.morphology.proofs.DiagonalRows.{not-opposed-rows}
 use Rattle.morphology.proofs.Pairings.{opposed-same}
 use Rattle.morphology.proofs.Dilations.{dilation-n-accepted, Sum, accepted-sum}
-
-none-or : {R : Type 0} (m : ℕ) → (m ≡ 0 → R) → (1 ≤ m → R) → R
-none-or zero f g = f refl
-none-or (suc m) f g = g (omega arith)
 
 same-bounds : (a b : Octagon) → a ≡ b → In a ≐ In b
 same-bounds a b e = rw e (same-refl (In b))
@@ -62,7 +59,7 @@ module _ (p f : Octagon) (m n : ℕ) (d e w : Marked)
   -- the second call says filled exactly where the first made no fold, it makes one, and the operands are opposed rows
   pub second-filled : (e .is-filled ≡ true) ↔ ((m ≡ 0) × (1 ≤ n) × OpposedRows (In p) (In f))
   second-filled = (
-    λ t. let h = own .0 t in none-or m (λ z. (z, h .0, opposed-same (as-before z) (same-refl (In f)) (h .1))) (λ l. absurd (apart l (h .1))),
+    λ t. let h = own .0 t in if-any m (λ l. absurd (apart l (h .1))) (λ z. (z, h .0, opposed-same (as-before z) (same-refl (In f)) (h .1))),
     λ h. own .1 (h .1, opposed-same (same-sym (as-before (h .0))) (same-refl (In f)) (h .2)),
   )
     where
@@ -73,12 +70,12 @@ module _ (p f : Octagon) (m n : ℕ) (d e w : Marked)
   pub marks-together : w .is-filled ≡ (d .is-filled || e .is-filled)
   marks-together =
       both-or-neither (w .is-filled) (d .is-filled || e .is-filled)
-      (λ t.
-      let h = at-once-when .0 t in
-      either-or (d .is-filled) (e .is-filled)
-      (none-or m (λ z. inr (second-filled .1 (z, omega arith, h .1))) (λ l. inl (first-when .1 (l, h .1)))))
-      (λ t. at-once-when .1 (of-either (or-either (d .is-filled) (e .is-filled) t)))
+      (λ t. true-T (either-or (d .is-filled) (e .is-filled) (to-either (at-once-when .0 (T-true (w .is-filled) t)))))
+      (λ t. true-T (at-once-when .1 (of-either (or-either (d .is-filled) (e .is-filled) (T-true (d .is-filled || e .is-filled) t)))))
     where
+      to-either : (1 ≤ m + n) × OpposedRows (In p) (In f) → (d .is-filled ≡ true) ⊎ (e .is-filled ≡ true)
+      to-either h = if-any m (λ l. inl (first-when .1 (l, h .1))) (λ z. inr (second-filled .1 (z, omega (arith, z, h .0), h .1)))
+
       of-either : (d .is-filled ≡ true) ⊎ (e .is-filled ≡ true) → (1 ≤ m + n) × OpposedRows (In p) (In f)
       of-either (inl t) = let h = first-when .0 t in (omega (arith, h .0), h .1)
       of-either (inr t) = let h = second-filled .0 t in (omega (arith, h .1), h .2)

@@ -16,24 +16,17 @@ use lib.Ieee.Scale.{finite}
 use borrow.Author.Tests.{ltb-false, not-true}
 use Rattle.integers.proofs.Parts.{up, dn, neg-up, neg-dn, le-parts, parts-le}
 use Rattle.integers.proofs.Linear.{#, _⊕_, lit, _≼_}
-use Rattle.integers.proofs.Tests.{cases, test-le, true-is-not-false, both-true, not-le-told}
+use Rattle.integers.proofs.Tests.{cases, test-le, true-is-not-false, both-true, both-or-neither, not-le-told}
 use Rattle.octagon.specs.Cells.{limit}
 use Rattle.outline.specs.Places.{over, Exactly}
 use Rattle.outline.proofs.Over.{over-exact}
 use Rattle.tape.specs.Snapping.{with-sign, edge, within-edges}
 use Rattle.tape.proofs.Scales.{scaled-le, unscaled-le, either-order, sign-scaled}
 
--- two tests that pass together are equal
-same-test : (a b : Bool) → (T a → T b) → (T b → T a) → a ≡ b
-same-test true true f g = refl
-same-test true false f g = absurd (f tt)
-same-test false true f g = absurd (g tt)
-same-test false false f g = refl
-
 -- two tests of orders that say the same
 same-order : (a b c d : ℤ) → (# a ≼ # b → # c ≼ # d) → (# c ≼ # d → # a ≼ # b) → leZ a b ≡ leZ c d
 same-order a b c d f g =
-    same-test (leZ a b) (leZ c d)
+    both-or-neither (leZ a b) (leZ c d)
     (λ t. parts-le c d (f (le-parts {a = a} {b = b} (record { le = t }))) .le)
     (λ t. parts-le a b (g (le-parts {a = c} {b = d} (record { le = t }))) .le)
 
@@ -54,9 +47,9 @@ compared : (t : Bool) (a : ℕ) (s : Bool) (b : ℕ) → (below t a s b || level
 unfolding up dn
 compared false a false b =
     let m = at-most a b (eqb a b) (eqb→eq a b) eq→eqb in
-    same-test (ltb a b || (eqb a b && true)) (leZ (pos a) (pos b)) (λ t. le→leb a b (m .0 t)) (λ t. m .1 (leb→le a b t))
+    both-or-neither (ltb a b || (eqb a b && true)) (leZ (pos a) (pos b)) (λ t. le→leb a b (m .0 t)) (λ t. m .1 (leb→le a b t))
 compared false a true b =
-    same-test (eqb a b && eqb a 0) (leZ (pos a) (negℤ (pos b)))
+    both-or-neither (eqb a b && eqb a 0) (leZ (pos a) (negℤ (pos b)))
     (λ t.
     let p = eqb→eq a b (and-l (eqb a b) (eqb a 0) t) in
     let q = eqb→eq a 0 (and-r (eqb a b) (eqb a 0) t) in
@@ -67,7 +60,7 @@ compared false a true b =
     let z : up (negℤ (pos b)) ≡ 0 = neg-up (pos b) in
     and-i (eqb a b) (eqb a 0) (eq→eqb {a = a} {b = b} (omega arith)) (eq→eqb {a = a} {b = 0} (omega arith)))
 compared true a false b =
-    same-test (ltb 0 (a + b) || (eqb a b && eqb a 0)) (leZ (negℤ (pos a)) (pos b))
+    both-or-neither (ltb 0 (a + b) || (eqb a b && eqb a 0)) (leZ (negℤ (pos a)) (pos b))
     (λ t. parts-le (negℤ (pos a)) (pos b) (omega (arith, neg-up (pos a), neg-dn (pos a))) .le)
     (λ t.
     cases (ltb 0 (a + b))
@@ -79,7 +72,7 @@ compared true a true b =
     let nb = neg-dn (pos b) in
     let za = neg-up (pos a) in
     let zb = neg-up (pos b) in
-    same-test (ltb b a || (eqb a b && true)) (leZ (negℤ (pos a)) (negℤ (pos b)))
+    both-or-neither (ltb b a || (eqb a b && true)) (leZ (negℤ (pos a)) (negℤ (pos b)))
     (λ t. let h = m .0 t in parts-le (negℤ (pos a)) (negℤ (pos b)) (omega arith) .le)
     (λ t. m .1 (let h : # (negℤ (pos a)) ≼ # (negℤ (pos b)) = le-parts {a = negℤ (pos a)} {b = negℤ (pos b)} (record { le = t }) in omega arith))
 
