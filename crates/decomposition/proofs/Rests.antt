@@ -1,7 +1,7 @@
 -- What the rows of an outline leave of it: some case fits this rest, and counts of two kinds that make it are those that are found. Assumes
 -- nothing.
 use mathlib.Core.Path.{_≡_, _∙_, sym}
-use Prim.Native.Nat.{ℕ, _+_, min, _≤_}
+use Prim.Native.Nat.{ℕ, _+_, min}
 use native.Mathlib.Omega.{arith}
 use Rattle.integers.proofs.Between.{if-any}
 use Rattle.outline.specs.declared.Outline.{Outline}

@@ -1,6 +1,6 @@
 -- The marks of spreads that add up (document 02's U7): the call of m + n folds says filled exactly where one of the two calls does, and the
 -- second call differs from it where that was the first. Assumes nothing.
-use mathlib.Core.Path.{_≡_, refl, sym, _∙_, ap}
+use mathlib.Core.Path.{_≡_, sym, _∙_, ap}
 use mathlib.Core.Logic.{_↔_, _⊎_, inl, inr}
 use mathlib.Core.Bool.{true, _||_}
 use Prim.Native.Nat.{ℕ, _+_, _≤_}
