@@ -9,8 +9,8 @@ code. A set is a Python set of cells (x, y) with no edge and no window. Sums, po
 side and opposed diagonal rows are taken word for word from the definitions; a spread is filled where its operands are opposed,
 and that no octagon has just its sums is asserted beside it. The triangles of a split are picked from all the ways to take
 pieces from what the rows leave until nothing is left. Folds in two calls are those of the smallest octagon that holds what
-the first gave. Some 65,535 folds are told from the plot, moved by that many times each cell of the element. "agreed" is the
-number of comparisons that the program makes, since every answer has to agree.
+the first gave. As many folds as the limit has, or nearly, are told from the plot, moved by that many times each cell of the
+element. "agreed" is the number of comparisons that the program makes, since every answer has to agree.
 """
 
 from fractions import Fraction
@@ -374,7 +374,7 @@ def moved(p, e, n):
 
 
 def most_sums(p, e, n):
-    """The answer to so many spreads, some 65,535: the sums have p moved by that many times each cell of e."""
+    """The answer to so many spreads, about as many as the limit: the sums have p moved by that many times each cell of e."""
     if len(e) == 1:
         return accepted(moved(p, e, n))
     assert any(is_off_map(moved(p, [cell], n)) for cell in e)
@@ -382,7 +382,7 @@ def most_sums(p, e, n):
 
 
 def most_left(p, e, n):
-    """The answer to so many trims, some 65,535: what is left lies in p moved back by that many times each cell of e."""
+    """The answer to so many trims, about as many as the limit: what is left lies in p moved back by that many times each cell of e."""
     if len(e) == 1:
         return trimmed(moved(p, e, -n))
     assert not set.intersection(*(moved(p, [cell], -n) for cell in e))

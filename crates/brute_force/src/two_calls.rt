@@ -1,5 +1,5 @@
 // Folds in two calls (document 02's U7): what m folds gave, folded n times more, is expected to be what the set after m + n folds says. No call
-// of the library is made for that; after some 65,535 folds, which no window holds, the set is told by reasoning.
+// of the library is made for that. After as many folds as the limit has, or nearly, the set is in no window, and is told by reasoning.
 ghost use Prim.Native.Nat.{_<_};
 use crate::answers;
 use crate::answers::NOTHING_LEFT;
