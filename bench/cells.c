@@ -131,9 +131,7 @@ void eroded(const cells *a, const cells *b, cells *out) {
                 }
 }
 
-int same_cells(const cells *a, const cells *b) {
-    if (number_of(a) != number_of(b))
-        return 0;
+int is_inside(const cells *a, const cells *b) {
     for (int j = 0; j < WINDOW; j++)
         for (int i = 0; a->row[j] && i < WINDOW; i++)
             if (has(a, i, j)) {
@@ -143,6 +141,8 @@ int same_cells(const cells *a, const cells *b) {
             }
     return 1;
 }
+
+int same_cells(const cells *a, const cells *b) { return number_of(a) == number_of(b) && is_inside(a, b); }
 
 int is_octagon(const cells *a) {
     int64_t c[8];

@@ -1,5 +1,5 @@
 /* Compares every exported call with what oracle.h works out, on random and damaged inputs, and says how many it compared.
- * usage: compare [ROUNDS] [SHEETS] [TAPES] [TREES] [JOINS] */
+ * usage: compare [ROUNDS] [SHEETS] [TAPES] [TREES] [JOINS] [TRIPLES] */
 #include "compare.h"
 #include <stdio.h>
 #include <stdlib.h>
@@ -7,6 +7,7 @@
 uint64_t octagons_by_cells, pairs_by_cells, outlines_by_cells, splits_by_cells, trees_by_cells, listings, widened, joined, joined_once;
 uint64_t filled[SPREADS], filled_by_cells, filled_off_map;
 uint64_t second_spreads, second_trims, marks_differ, trims_off_map;
+uint64_t opened_less, opened_by_filled, opened_unlike, opened_off_map;
 static uint64_t compared, accepted, seen[256];
 
 void differ(const char *call, const int32_t *p, const int32_t *f, uint32_t got, uint32_t want) {
@@ -35,7 +36,7 @@ void agree(const char *call, const int32_t *p, uint32_t got, uint32_t want, int 
 int main(int argc, char **argv) {
     uint64_t rounds = argc > 1 ? strtoull(argv[1], NULL, 10) : 4000000, sheets = argc > 2 ? strtoull(argv[2], NULL, 10) : 1000000;
     uint64_t tapes = argc > 3 ? strtoull(argv[3], NULL, 10) : 4000000, trees = argc > 4 ? strtoull(argv[4], NULL, 10) : 4000000;
-    uint64_t joins = argc > 5 ? strtoull(argv[5], NULL, 10) : 1000000;
+    uint64_t joins = argc > 5 ? strtoull(argv[5], NULL, 10) : 1000000, triples = argc > 6 ? strtoull(argv[6], NULL, 10) : 1000000;
     compare_constants();
     for (uint64_t i = 0; i < rounds; i++) {
         int32_t p[8], f[8];
@@ -58,10 +59,13 @@ int main(int argc, char **argv) {
     for (uint64_t i = 0; i < joins; i++)
         compare_pair_of_sheets();
     compare_full_joins();
-    printf("inputs %llu, calls compared %llu, accepted %llu, no difference\n", (unsigned long long)(rounds + sheets + tapes + trees + joins), (unsigned long long)compared, (unsigned long long)accepted);
+    for (uint64_t i = 0; i < triples; i++)
+        compare_triple();
+    printf("inputs %llu, calls compared %llu, accepted %llu, no difference\n", (unsigned long long)(rounds + sheets + tapes + trees + joins + triples), (unsigned long long)compared, (unsigned long long)accepted);
     printf("by sets of cells: octagons %llu, pairs %llu, outlines %llu, splits %llu, trees %llu\n", (unsigned long long)octagons_by_cells, (unsigned long long)pairs_by_cells, (unsigned long long)outlines_by_cells, (unsigned long long)splits_by_cells, (unsigned long long)trees_by_cells);
     printf("filled: dilate %llu, opening %llu, closing %llu, dilate_n %llu; by sets of cells %llu; refused as off the map %llu\n", (unsigned long long)filled[DILATE], (unsigned long long)filled[OPENING], (unsigned long long)filled[CLOSING], (unsigned long long)filled[DILATE_N], (unsigned long long)filled_by_cells, (unsigned long long)filled_off_map);
     printf("second calls: spreads %llu, of which filled %llu, and exact where one call is filled %llu; trims %llu; first trims off the map alone %llu\n", (unsigned long long)second_spreads, (unsigned long long)filled[DILATE_M_N], (unsigned long long)marks_differ, (unsigned long long)second_trims, (unsigned long long)trims_off_map);
+    printf("opened by one element spread with another: %llu, inside the plot opened by one of the two; by a filled spread %llu, one filled and the other exact %llu; that by one alone off the map %llu\n", (unsigned long long)opened_less, (unsigned long long)opened_by_filled, (unsigned long long)opened_unlike, (unsigned long long)opened_off_map);
     printf("rests that fit one pair alone");
     for (int i = 0; i < 8; i++)
         printf(" %llu", (unsigned long long)fit_alone[i]);

@@ -21,6 +21,9 @@ void random_tree(tree *t);
 /* Two operands, and how often one is spread or trimmed by the other; often opposed diagonal rows, and some plots as wide as the map
  * (input_pairs.c). */
 uint32_t random_pair(int32_t p[8], int32_t f[8]);
+/* Two elements, mostly small and often rows, and a plot that mostly has room for the one spread with the other, and often not much more
+ * (input_pairs.c). */
+void random_triple(int32_t p[8], int32_t f[8], int32_t g[8]);
 
 /* ---- sheets (input_sheets.c) */
 
@@ -62,6 +65,10 @@ extern uint64_t filled[SPREADS], filled_by_cells, filled_off_map;
 /* Folds that were made in two calls too: how many second calls were made, how often one call is filled and the second of two is exact, and
  * how often the first of two trims leaves the map and one call does not. */
 extern uint64_t second_spreads, second_trims, marks_differ, trims_off_map;
+/* Plots opened by one element spread with another, beside the openings by each of the two: how often both are accepted, how many of these
+ * have a filled spread, and of how many one opening is filled and the other exact; how often the opening by the element alone leaves the
+ * map. */
+extern uint64_t opened_less, opened_by_filled, opened_unlike, opened_off_map;
 /* Writes the difference and ends the program. */
 void differ(const char *call, const int32_t *p, const int32_t *f, uint32_t got, uint32_t want);
 void count_answer(uint32_t number);
@@ -95,11 +102,13 @@ plot plot_of(uint32_t i);
  * (compare_joins.c). */
 uint32_t compare_join(const half *first, const half *second, size_t room, size_t *len);
 
-/* ---- the parts (compare_octagons.c, compare_pairs.c, compare_lengths.c, compare_random_sheets.c, compare_full_sheets.c,
- * compare_tapes.c, compare_trees.c, compare_joins.c, compare_full_joins.c) */
+/* ---- the parts (compare_octagons.c, compare_pairs.c, compare_triples.c, compare_lengths.c, compare_random_sheets.c,
+ * compare_full_sheets.c, compare_tapes.c, compare_trees.c, compare_joins.c, compare_full_joins.c) */
 
 void compare_one(const int32_t c[8], uint64_t round);
 void compare_two(const int32_t p[8], const int32_t f[8], uint32_t n);
+/* A random plot opened by one element spread with another, and by each of the two. */
+void compare_triple(void);
 void compare_outline(void);
 /* Slices of wrong lengths. */
 void compare_lengths(const int32_t p[8], const int32_t f[8]);

@@ -1,4 +1,4 @@
-/* Two operands, and how often one is spread or trimmed by the other. */
+/* Two operands, and how often one is spread or trimmed by the other; and a plot with two elements. */
 #include "compare.h"
 
 /* How far the folds of a row may go: from edge to edge of the map. */
@@ -85,4 +85,37 @@ static uint32_t random_wide(int32_t p[8], int32_t f[8]) {
 uint32_t random_pair(int32_t p[8], int32_t f[8]) {
     uint32_t kind = any() % 16;
     return kind < 2 ? random_opposed(p, f) : kind == 2 ? random_wide(p, f) : random_two(p, f);
+}
+
+/* Two elements: bounds that are mostly small, short rows of one kind or opposed, or a row and such bounds. */
+static void random_elements(int32_t f[8], int32_t g[8]) {
+    uint32_t kind = any() % 4;
+    int rising = (int)(any() % 2);
+    row(f, from(0, 5), rising);
+    row(g, from(0, 5), kind == 1 ? rising : !rising);
+    int32_t x = from(-3, 3), y = from(-3, 3), u = from(-3, 3), v = from(-3, 3);
+    move(f, x, y);
+    move(g, u, v);
+    if (kind == 0)
+        random_bounds(f, 5, 0);
+    if (kind == 0 || kind == 3)
+        random_bounds(g, 5, 0);
+}
+
+void random_triple(int32_t p[8], int32_t f[8], int32_t g[8]) {
+    random_elements(f, g);
+    if (any() % 4 == 0) {
+        random_bounds(p, 20, 0);
+        return;
+    }
+    for (int k = 0, room = from(0, 6); k < 8; k++) {
+        int64_t sum = (int64_t)f[k] + g[k] + from(0, room);
+        p[k] = sum > ACROSS ? ACROSS : sum < -ACROSS ? -ACROSS : (int32_t)sum;
+    }
+    if (any() % 2) {
+        int32_t x = shift(p[6], p[2]);
+        move(p, x, shift(p[0], p[4]));
+    }
+    if (any() % 4 == 0)
+        loosen(p);
 }

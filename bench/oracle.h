@@ -82,6 +82,8 @@ answer dilation_of_cells(const cells *a, const cells *b);
 answer opening_of_cells(const cells *p, const cells *f);
 /* The erosion of the sums themselves, holes and all, with their mark; and its cells where it is accepted. */
 answer closing_of_cells(const cells *p, const cells *f, cells *closed);
+/* Whether every cell of the first is a cell of the second. */
+int is_inside(const cells *a, const cells *b);
 int same_cells(const cells *a, const cells *b);
 
 /* ---- by walking */

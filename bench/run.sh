@@ -12,7 +12,7 @@ mkdir -p "$built"
 sh "$root/bindings/archive.sh"
 for program in "$@"; do
     case $program in
-    compare) set -- -O3 compare.c compare_octagons.c compare_pairs.c compare_lengths.c compare_sheets.c compare_random_sheets.c compare_full_sheets.c compare_tapes.c compare_trees.c compare_joins.c compare_full_joins.c inputs.c input_pairs.c input_sheets.c input_trees.c input_joins.c cells.c walks.c search.c splits.c sheets.c joins.c listings.c tapes.c trees.c ;;
+    compare) set -- -O3 compare.c compare_octagons.c compare_pairs.c compare_triples.c compare_lengths.c compare_sheets.c compare_random_sheets.c compare_full_sheets.c compare_tapes.c compare_trees.c compare_joins.c compare_full_joins.c inputs.c input_pairs.c input_sheets.c input_trees.c input_joins.c cells.c walks.c search.c splits.c sheets.c joins.c listings.c tapes.c trees.c ;;
     benchmark) set -- -O2 benchmark.c benchmark_sheets.c plain.c plain_sheets.c plain_inserts.c plain_joins.c plain_tapes.c plain_clearances.c ;;
     *) echo "run.sh: no program $program" >&2; exit 2 ;;
     esac

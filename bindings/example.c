@@ -119,9 +119,10 @@ static void octagons(void) {
 /* A plot and a frame whose numbers all differ. */
 static void uneven(void) {
     static const int32_t slack[8] = {5, 4, 0, 10, 40, 27, 11, 20};
-    int32_t plot[8] = {0}, out[8] = {0};
+    int32_t plot[8] = {0}, row[8], out[8] = {0};
     double place[2] = {0, 0};
     uint32_t mark = UNMARKED;
+    octagon_at(7, -3, RISING, row);
     kx_to_octagon(UNEVEN_START, 2, UNEVEN_SIDES, 8, plot, 8);
     show_bounds("uneven plot", plot);
     show_bounds("slack bounds that differ", slack);
@@ -129,6 +130,9 @@ static void uneven(void) {
     show_spread("spread by the frame", kx_dilate, plot, FRAME);
     show_trim("trimmed by the frame", kx_erode, plot, FRAME);
     show_spread("opened by the frame", kx_opening, plot, FRAME);
+    show_spread("the frame spread by a rising row", kx_dilate, FRAME, row);
+    kx_dilate(FRAME, 8, row, 8, out, 8, &mark);
+    show_spread("opened by that", kx_opening, plot, out);
     show_spread("closed by the frame", kx_closing, plot, FRAME);
     show_folds("spread twice by the frame", plot, FRAME, 2);
     kx_dilate_n(plot, 8, FRAME, 8, 2, out, 8, &mark);
@@ -159,6 +163,7 @@ static void opposed_rows(void) {
     kx_dilate(rising, 8, falling, 8, both, 8, &mark);
     show_trim("the spread trimmed by rising", kx_erode, both, rising);
     show_spread("the spread opened by falling", kx_opening, both, falling);
+    show_spread("the spread opened by itself", kx_opening, both, both);
     show_spread("falling closed by rising", kx_closing, falling, rising);
     show_spread("rising opened by falling", kx_opening, rising, falling);
     show_spread("rising spread by itself", kx_dilate, rising, rising);

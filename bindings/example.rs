@@ -101,6 +101,9 @@ fn uneven() {
     show_spread("spread by the frame", kx::dilate(&plot, &FRAME));
     show("trimmed by the frame", kx::erode(&plot, &FRAME));
     show_spread("opened by the frame", kx::opening(&plot, &FRAME));
+    let larger = kx::dilate(&FRAME, &octagon_at(7, -3, &RISING));
+    show_spread("the frame spread by a rising row", larger);
+    show_spread("opened by that", larger.and_then(|frame| kx::opening(&plot, &frame.bounds())));
     show_spread("closed by the frame", kx::closing(&plot, &FRAME));
     show_spread("spread twice by the frame", kx::dilate_n(&plot, &FRAME, 2));
     let twice = kx::dilate_n(&plot, &FRAME, 2).unwrap().bounds();
@@ -128,6 +131,7 @@ fn opposed_rows() {
     assert!(both.is_filled());
     show("the spread trimmed by rising", kx::erode(&both.bounds(), &rising));
     show_spread("the spread opened by falling", kx::opening(&both.bounds(), &falling));
+    show_spread("the spread opened by itself", kx::opening(&both.bounds(), &both.bounds()));
     show_spread("falling closed by rising", kx::closing(&falling, &rising));
     show_spread("rising opened by falling", kx::opening(&rising, &falling));
     show_spread("rising spread by itself", kx::dilate(&rising, &rising));

@@ -101,7 +101,11 @@ uint32_t kx_count(const int32_t *bounds, size_t bounds_len, uint32_t *cells);
  *                      result. Filled exactly where the operands are opposed diagonal rows
  *   erode    (trim)    the positions at which the whole element stands inside the plot: 5, then 2 for the result
  *   opening            the erosion, and where that is accepted the dilation of what it left: the erosion's 5 and 2, and no other.
- *                      The mark is the dilation's: filled exactly where what was left and the element are opposed diagonal rows
+ *                      The mark is the dilation's: filled exactly where what was left and the element are opposed diagonal rows.
+ *                      An element spread with another opens no more than it does alone: the plot opened by the octagon that
+ *                      kx_dilate gives for the two lies inside the plot opened by either, filled or not, where all these calls are
+ *                      accepted. Where the opening by both is accepted, the erosion by either is not refused with 5. An element that
+ *                      merely holds another may open more
  *   closing            the dilation, and where that is accepted the erosion of what it gave: the dilation's 2, never 5. The mark is
  *                      the dilation's, and the cells are exact under either mark: they are the plot's own */
 uint32_t kx_dilate(const int32_t *plot, size_t plot_len, const int32_t *element, size_t element_len, int32_t *out, size_t out_len, uint32_t *mark);

@@ -285,6 +285,10 @@ trims! {
 spreads! {
     /// The erosion, and where that is accepted the dilation of what it left: filled where that dilation is.
     ///
+    /// An element spread with another opens no more than it does alone: the plot opened by the octagon that [`dilate`] gives for the two
+    /// lies inside the plot opened by either, filled or not, where all these calls are accepted. Where the opening by both is accepted,
+    /// the erosion by either is not refused with `NothingLeft`. An element that merely holds another may open more.
+    ///
     /// Refusals: those of the erosion, and no other.
     opening, kx_opening
 }

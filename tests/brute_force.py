@@ -10,7 +10,9 @@ side and opposed diagonal rows are taken word for word from the definitions; a s
 and that no octagon has just its sums is asserted beside it. The triangles of a split are picked from all the ways to take
 pieces from what the rows leave until nothing is left. Folds in two calls are those of the smallest octagon that holds what
 the first gave. As many folds as the limit has, or nearly, are told from the plot, moved by that many times each cell of the
-element. "agreed" is the number of comparisons that the program makes, since every answer has to agree.
+element. A plot is opened too by the smallest octagon that holds the sums of its element and that of the pair before, or K2 or
+K4; that the opening lies inside the one by the element alone is asserted. "agreed" is the number of comparisons that the program makes,
+since every answer has to agree.
 """
 
 from fractions import Fraction
@@ -308,10 +310,11 @@ CALLS = {
     name: Kind()
     for name in (
         "normalise count_cells to_outline vertex_place to_octagon decompose "
-        "dilate erode closing opening dilate_n erode_n dilate_m_n erode_m_n"
+        "dilate erode closing opening dilate_n erode_n dilate_m_n erode_m_n open_by_both"
     ).split()
 }
-OPERATIONS = list(CALLS)[6:]
+# those on two operands
+OPERATIONS = list(CALLS)[6:14]
 
 
 def compare_operand(pair, some):
@@ -439,8 +442,40 @@ def compare_trims(p, e):
     CALLS["erode_n"].note(refused(6))
 
 
-def compare(pair, plot, element):
+def opened_by(p, frame):
+    """The answer to an opening of cells on the map, and the cells of the octagon handed back, if any."""
+    left = erosion(p, frame)
+    first = trimmed(left)
+    if first[10]:
+        return first, None
+    return spread(left, frame), smallest(dilation(left, frame))
+
+
+def by_both(p, e, third):
+    """The answer to a plot opened by what one element spread with a third set gives."""
+    number = normal(e)[10] or normal(third)[10]
+    if number:
+        return refused(number)
+    sums = dilation(e, third)
+    number = bounded(sums, False)[10] or normal(p)[10]
+    if number:
+        return refused(number)
+    answer, less = opened_by(p, smallest(sums))
+    if less:
+        alone, more = opened_by(p, e)
+        # inside what the element alone opens, which is nothing only where that is off the map
+        assert less <= more if more else alone[10] == 2
+    return answer
+
+
+def compare(pair, plot, element, third):
     p, e = cells(*plot), cells(*element)
+    compare_pair(pair, p, e)
+    CALLS["open_by_both"].note(by_both(p, e, third))
+    return e
+
+
+def compare_pair(pair, p, e):
     first, second = compare_operand(pair, p), compare_operand(pair, e)
     compare_split(first, p)
     if p:
@@ -456,9 +491,11 @@ def compare(pair, plot, element):
 
 def main():
     draw = bytes_from(0)
+    third = set()
     for pair in range(2500):
         plot = drawn(draw, 2)
-        compare(pair, plot, drawn(draw, 1))
+        element = compare(pair, plot, drawn(draw, 1), third)
+        third = element if pair % 2 else inside((0, 0), PIECES[pair % 4 + 1])
     print("call         accepted, of these filled, refused with 1, 2, 3, 5, 6, 7, agreed, digest")
     for name, kind in CALLS.items():
         accepts, *refusals = kind.numbers.values()

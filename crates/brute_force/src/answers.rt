@@ -51,7 +51,7 @@ fn number_of(bench: &Bench, empty: usize) -> usize {
 
 // Expects the ten numbers of a row, or with a number that is not 0 a refusal, which has no others; and no mark.
 pub fn expect_row(bench: &mut Bench, row: usize, number: usize)
-    requires { ⌜ row < 400 ⌝ }
+    requires { ⌜ row < 448 ⌝ }
 {
     let mut k = 0;
     while k < 10 {
@@ -126,15 +126,15 @@ pub fn is_spread(bench: &Bench, given: Spread) -> bool {
 }
 
 fn bound(bench: &Bench, row: usize, k: usize) -> i32
-    requires { ⌜ row < 400 ⌝ }
+    requires { ⌜ row < 448 ⌝ }
     requires { ⌜ k < 16 ⌝ }
 {
     lowered(get(bench, row, k))
 }
 
-// An operand as the library takes it.
+// The octagon of a row as the library takes it.
 pub fn octagon(bench: &Bench, row: usize) -> Octagon
-    requires { ⌜ row < 400 ⌝ }
+    requires { ⌜ row < 448 ⌝ }
 {
     Octagon {
         c0: bound(bench, row, 0),

@@ -6,6 +6,7 @@
 // enumerated (two_calls.rt). tests/brute_force.py works the output out by itself.
 mod answers;
 mod bench;
+mod both;
 mod corners;
 mod draws;
 mod grid;
@@ -23,10 +24,11 @@ use bench::Bench;
 use bench::ELEMENT;
 use bench::PAIR;
 use bench::PLOT;
+use bench::THIRD_NUMBER;
 
 const PAIRS: usize = 2500;
 
-// Every call on one pair.
+// Every call on one pair, and the plot opened by the element spread with a third octagon, which has no cell for the first pair.
 fn compare(bench: &mut Bench) {
     draws::draw(bench, PLOT);
     let first = operands::compare(bench, PLOT);
@@ -35,10 +37,12 @@ fn compare(bench: &mut Bench) {
     draws::draw(bench, ELEMENT);
     let second = operands::compare(bench, ELEMENT);
     operations::compare_all(bench, if first == 0 { second } else { first });
+    both::compare(bench, first, second);
 }
 
 fn main() {
-    let mut bench = [0; 10008];
+    let mut bench = [0; 10056];
+    bench[THIRD_NUMBER] = answers::NO_CELL;
     let mut k = 0;
     while k < PAIRS {
         bench[PAIR] = k;

@@ -8,12 +8,15 @@ use crate::answers::is_spread;
 use crate::answers::octagon;
 use crate::bench::BOUNDS;
 use crate::bench::Bench;
+use crate::bench::EXPECTED;
 use crate::bench::FOLDED;
 use crate::bench::MARK;
+use crate::bench::OPENED;
 use crate::bench::OPERANDS;
 use crate::bench::PLACES;
 use crate::bench::PLOT;
 use crate::bench::RESULT;
+use crate::bench::copy;
 use crate::sets;
 use crate::tally;
 use crate::tally::CLOSING;
@@ -129,7 +132,7 @@ fn compare_folds(bench: &mut Bench, erodes: bool) {
     compare_most(bench, erodes);
 }
 
-// Every operation on a pair of which an operand is refused with a number, or both are accepted.
+// Every operation on a pair of which an operand is refused with a number, or both are accepted. What is expected of the opening is kept.
 pub fn compare_all(bench: &mut Bench, number: usize) {
     if number != 0 {
         compare_refused(bench, number);
@@ -137,6 +140,7 @@ pub fn compare_all(bench: &mut Bench, number: usize) {
     }
     compare_steps(bench, false);
     compare_steps(bench, true);
+    copy(bench, EXPECTED, OPENED);
     compare_folds(bench, false);
     compare_folds(bench, true);
 }

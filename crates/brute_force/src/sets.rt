@@ -20,7 +20,7 @@ const OF_NEXT: usize = SETS + NEXT * SPAN;
 
 // Whether a cell of the window at a place is within the bounds of a row.
 fn contains(bench: &Bench, row: usize, place: usize, cell: usize) -> bool
-    requires { ⌜ row < 400 ⌝ }
+    requires { ⌜ row < 448 ⌝ }
 {
     let mut k = 0;
     while k < 8 {
@@ -34,7 +34,7 @@ fn contains(bench: &Bench, row: usize, place: usize, cell: usize) -> bool
 
 // Makes a set the cells within the bounds of a row, in the window at a place.
 pub fn enumerate(bench: &mut Bench, row: usize, set: usize, place: usize)
-    requires { ⌜ row < 400 ⌝ }
+    requires { ⌜ row < 448 ⌝ }
     requires { ⌜ set < 4 ⌝ }
 {
     bench[PLACES + set] = place;
@@ -47,13 +47,28 @@ pub fn enumerate(bench: &mut Bench, row: usize, set: usize, place: usize)
 
 // Whether a set has just the cells within the bounds of a row.
 pub fn is_within(bench: &Bench, row: usize, set: usize) -> bool
-    requires { ⌜ row < 400 ⌝ }
+    requires { ⌜ row < 448 ⌝ }
     requires { ⌜ set < 4 ⌝ }
 {
     let place = bench[PLACES + set];
     let mut i = 0;
     while i < SIZE {
         if bench[SETS + set * SPAN + i] != contains(bench, row, place, i) as usize {
+            return false;
+        }
+        i += 1;
+    }
+    true
+}
+
+// Whether every cell within the bounds of one row is within those of another, in the window at a place.
+pub fn is_inside(bench: &Bench, inner: usize, outer: usize, place: usize) -> bool
+    requires { ⌜ inner < 448 ⌝ }
+    requires { ⌜ outer < 448 ⌝ }
+{
+    let mut i = 0;
+    while i < SIZE {
+        if contains(bench, inner, place, i) & !contains(bench, outer, place, i) {
             return false;
         }
         i += 1;

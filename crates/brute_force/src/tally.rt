@@ -36,7 +36,10 @@ pub const DILATE_M_N: usize = 12;
 
 pub const ERODE_M_N: usize = 13;
 
-pub const CALLS: usize = 14;
+// The plot opened by the element spread with the third octagon.
+pub const OPEN_BY_BOTH: usize = 14;
+
+pub const CALLS: usize = 15;
 
 // A call's numbers: how often it was expected to be accepted, how many of these were filled, and how often it was to be refused with each
 // number; how many answers agreed; a digest of what was expected.
@@ -52,8 +55,8 @@ const PRIME: usize = 1000000007;
 
 // Mixes the first n numbers of a row into the digest of a call.
 pub fn mix(bench: &mut Bench, call: usize, row: usize, n: usize)
-    requires { ⌜ call < 14 ⌝ }
-    requires { ⌜ row < 400 ⌝ }
+    requires { ⌜ call < 15 ⌝ }
+    requires { ⌜ row < 448 ⌝ }
     requires { ⌜ n < 16 ⌝ }
 {
     let mut digest = get(bench, call * 16, DIGEST);
@@ -75,7 +78,7 @@ fn write_part(names: &[u8], call: usize) {
 
 fn write_name(call: usize) {
     write_part(
-        b"normalise   count_cells to_outline  vertex_placeto_octagon  decompose   dilate      erode       closing     opening     dilate_n    erode_n     dilate_m_n  erode_m_n   ",
+        b"normalise   count_cells to_outline  vertex_placeto_octagon  decompose   dilate      erode       closing     opening     dilate_n    erode_n     dilate_m_n  erode_m_n   open_by_both",
         call,
     );
 }
@@ -106,7 +109,7 @@ fn column(number: usize) -> usize
 
 // Adds to one of the numbers of a call.
 fn add(bench: &mut Bench, call: usize, k: usize, n: usize)
-    requires { ⌜ call < 14 ⌝ }
+    requires { ⌜ call < 15 ⌝ }
     requires { ⌜ k < 16 ⌝ }
 {
     bench[call * 16 + k] = std::num::wrapping_add_usize(get(bench, call * 16, k), n);
@@ -114,7 +117,7 @@ fn add(bench: &mut Bench, call: usize, k: usize, n: usize)
 
 // Notes whether the answer to a call agrees with what is expected.
 pub fn note(bench: &mut Bench, call: usize, agrees: bool)
-    requires { ⌜ call < 14 ⌝ }
+    requires { ⌜ call < 15 ⌝ }
 {
     let mark = bench[MARK];
     let answer = column(bench[NUMBER]);
@@ -129,7 +132,7 @@ pub fn note(bench: &mut Bench, call: usize, agrees: bool)
 
 // Writes the line of a call.
 fn write_call(bench: &Bench, call: usize)
-    requires { ⌜ call < 14 ⌝ }
+    requires { ⌜ call < 15 ⌝ }
 {
     write_name(call);
     let mut k = 0;

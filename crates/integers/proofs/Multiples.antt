@@ -1,6 +1,6 @@
 -- A natural multiple of an integer, by its parts. Assumes nothing.
-use Prim.Native.Nat.{ℕ, suc, _+_, _*_, _≤_}
-use native.Mathlib.Nat.{mul-zero, suc-mul, add-mul, mul-le-mul-left, mul-le-mul}
+use Prim.Native.Nat.{ℕ, zero, suc, _+_, _*_, _≤_}
+use native.Mathlib.Nat.{zero-mul, mul-zero, suc-mul, add-mul, mul-le-mul-left, mul-le-mul}
 use native.Mathlib.Omega.{arith}
 use lib.IntN.{ℤ, pos, negsuc, _*ℤ_}
 use Rattle.integers.proofs.Parts.{up, dn, neg-up, neg-dn}
@@ -17,9 +17,22 @@ unfolding up dn
 times-parts n (pos m) = omega (arith, mul-zero n)
 times-parts n (negsuc m) = omega (arith, mul-zero n, neg-up (pos (n * suc m)), neg-dn (pos (n * suc m)))
 
+-- no multiple
+pub times-zero : (z : ℤ) → # (pos 0 *ℤ z) ≈ lit 0
+times-zero z = omega (arith, times-parts 0 z, zero-mul (up z), zero-mul (dn z))
+
 -- one more multiple
 pub times-suc : (n : ℕ) (z : ℤ) → # (pos (suc n) *ℤ z) ≈ # (pos n *ℤ z) ⊕ # z
 times-suc n z = omega (arith, times-parts (suc n) z, times-parts n z, suc-mul n (up z), suc-mul n (dn z))
+
+-- n times two numbers whose sum is at most 0, and whose sum is above 0
+pub times-below : (n : ℕ) (x z : ℤ) → # x ⊕ # z ≼ lit 0 → # (pos n *ℤ x) ⊕ # (pos n *ℤ z) ≼ lit 0
+times-below zero x z h = omega (arith, times-zero x, times-zero z)
+times-below (suc n) x z h = omega (arith, times-below n x z h, times-suc n x, times-suc n z)
+
+pub times-above : (n : ℕ) (x z : ℤ) → lit 1 ≼ # x ⊕ # z → lit n ≼ # (pos n *ℤ x) ⊕ # (pos n *ℤ z)
+times-above zero x z h = omega (arith, times-zero x, times-zero z)
+times-above (suc n) x z h = omega (arith, times-above n x z h, times-suc n x, times-suc n z)
 
 -- at most m times a number that is at most k from 0
 pub times-near : (n m k : ℕ) (z : ℤ) → n ≤ m → # z ≼ lit k → neg (# z) ≼ lit k → (# (pos n *ℤ z) ≼ lit (m * k)) × (neg (# (pos n *ℤ z)) ≼ lit (m * k))

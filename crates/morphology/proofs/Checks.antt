@@ -10,7 +10,7 @@ use Rattle.octagon.specs.declared.Octagon.{Octagon}
 use Rattle.octagon.specs.Outcome.{Outcome, accepted, refused, then}
 use Rattle.octagon.specs.Cells.{Empty, In, LeavesMap}
 use Rattle.octagon.proofs.Outcomes.{refused-same, accepted-not-refused}
-use Rattle.morphology.specs.Cases.{Answers, Check, fails, passes, OnOperands}
+use Rattle.morphology.specs.Cases.{Answers, Check, fails, passes, OnOperand, OnOperands}
 
 -- ---- one check
 
@@ -32,6 +32,10 @@ pub not-failed : {R T : Type 0} {k : ℕ} {C : Answers R} {o : Outcome R} → ¬
 not-failed n (fails t) = absurd (n refl)
 not-failed n (passes h c) = h
 
+-- of an answer that is accepted: the test does not hold, and the answer is that of what comes after it
+pub passed : {R T : Type 0} {k : ℕ} {C : Answers R} {a : R} → Check T k C (accepted a) → ¬ T
+passed c = not-failed (λ e. accepted-not-refused e) c
+
 pub later : {R T : Type 0} {k : ℕ} {C : Answers R} {a : R} → Check T k C (accepted a) → C (accepted a)
 later c = other (λ e. accepted-not-refused e) c
 
@@ -40,6 +44,13 @@ skip n c = other (λ e. n (refused-same e)) c
 
 pub after-operands : {R : Type 0} {C : Answers R} {p f : Octagon} {a : R} → OnOperands p f C (accepted a) → C (accepted a)
 after-operands c = later (later (later (later c)))
+
+-- an operand of a call that is accepted passes the checks of another
+pub operand-passes : {R S : Type 0} {C : Answers R} {D : Answers S} {p : Octagon} {a : R} {o : Outcome S} → OnOperand p C (accepted a) → OnOperand p D o → D o
+operand-passes c d = passing (passed (later c)) (passing (passed c) d)
+
+pub on-operand-of : {R S : Type 0} {C : Answers R} {D : Answers S} {p : Octagon} {a : R} {o : Outcome S} → OnOperand p C (accepted a) → D o → OnOperand p D o
+on-operand-of c d = passes (passed c) (passes (passed (later c)) d)
 
 pub skip-operands : {R : Type 0} {C : Answers R} {p f : Octagon} {j : ℕ} → 3 ≤ j → OnOperands p f C (refused j) → C (refused j)
 skip-operands l c = skip (λ e. omega arith) (skip (λ e. omega arith) (skip (λ e. omega arith) (skip (λ e. omega arith) c)))

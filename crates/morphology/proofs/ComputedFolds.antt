@@ -12,7 +12,7 @@ use Rattle.morphology.specs.Operations.{sums, differences, nothing-left,
 use Rattle.morphology.specs.Folds.{multiples, too-many-folds, dilation-n, erosion-n}
 use Rattle.morphology.specs.Premises.{dilations-n, erosions-n}
 
-abbrev bounds : ℤ → ℤ → ℤ → ℤ → ℤ → ℤ → ℤ → ℤ → Octagon
+abbrev pub bounds : ℤ → ℤ → ℤ → ℤ → ℤ → ℤ → ℤ → ℤ → Octagon
 bounds c0 c1 c2 c3 c4 c5 c6 c7 = record { c0 = c0; c1 = c1; c2 = c2; c3 = c3; c4 = c4; c5 = c5; c6 = c6; c7 = c7 }
 
 -- a plot of 129 cells, and an element of nine that does not hold (0, 0)
@@ -40,10 +40,10 @@ unfolding erosion-n normalised normal-form tight-odd tight-even even-bound odd-b
 trims-add = refl
 
 -- a row of three cells from (3, 1), and one of two, from (7, -2), opposed to it
-abbrev rising-row : Octagon
+abbrev pub rising-row : Octagon
 rising-row = bounds (negsuc 0) (pos 2) (pos 5) (pos 8) (pos 3) (negsuc 1) (negsuc 2) (negsuc 3)
 
-abbrev falling-row : Octagon
+abbrev pub falling-row : Octagon
 falling-row = bounds (pos 2) (pos 9) (pos 7) (pos 5) (negsuc 0) (negsuc 6) (negsuc 5) (negsuc 4)
 
 abbrev after-two : Octagon
@@ -57,10 +57,10 @@ marks-of-two = refl
 
 -- a plot at the map's east edge, with slack bounds, and an upright row of cells west of (0, 0): one trim reaches past the edge, and three do
 -- not, since the plot narrows eastward
-abbrev at-edge : Octagon
+abbrev pub at-edge : Octagon
 at-edge = bounds (pos 101) (pos 16011) (pos 16000) (pos 16009) (pos 103) (negsuc 15846) (negsuc 15949) (negsuc 15848)
 
-abbrev upright : Octagon
+abbrev pub upright : Octagon
 upright = bounds (pos 5) (pos 4) (negsuc 0) (pos 5) (pos 6) (pos 7) (pos 1) (pos 6)
 
 pub first-trim-off : erosion-n at-edge upright 1 ∷ erosions-n at-edge upright 1 upright 2 ∷ erosion-n at-edge upright 3 ∷ []

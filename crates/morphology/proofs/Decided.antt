@@ -1,20 +1,20 @@
 -- Allowed calls on operands that hold a cell have answers that a set decides. Assumes nothing.
-use mathlib.Core.Path.{_≡_, refl, sym, _∙_}
+use mathlib.Core.Path.{_≡_, sym, _∙_}
 use Prim.Native.Nat.{ℕ, _≤_}
 use native.Mathlib.Omega.{arith}
 use Rattle.octagon.specs.declared.Octagon.{Octagon}
 use Rattle.octagon.specs.Outcome.{Outcome, accepted, refused}
 use Rattle.octagon.specs.Cells.{Cells, _≐_, Empty, Some, In, LeavesMap}
 use Rattle.octagon.proofs.Outcomes.{refused-same, accepted-not-refused}
-use Rattle.morphology.specs.Sets.{Eroded, DilatedTimes, ErodedTimes, OpposedRows}
-use Rattle.morphology.specs.Marks.{Marked, exact, filled}
+use Rattle.morphology.specs.Sets.{Eroded, ErodedTimes}
+use Rattle.morphology.specs.Marks.{Marked}
 use Rattle.morphology.specs.Operations.{nothing-left, dilation, erosion}
 use Rattle.morphology.specs.Folds.{fold-limit, dilation-n, erosion-n}
 use Rattle.morphology.specs.Premises.{Allowed}
-use Rattle.morphology.specs.Cases.{Answers, Check, Stands, says-exact, says-filled, Spreads, OnOperands, Fitting, OnFolds}
+use Rattle.morphology.specs.Cases.{Answers, Check, Stands, OnOperands, Fitting, OnFolds}
 use Rattle.morphology.proofs.SetLaws.{same-sym, same-empty, some-there}
 use Rattle.morphology.proofs.Checks.{passing, other, not-failed, retold, after, check-one}
-use Rattle.morphology.proofs.Handed.{same-set, stands-one}
+use Rattle.morphology.proofs.Handed.{same-set, stands-one, spreads-accepted}
 use Rattle.morphology.proofs.FewFolds.{dilation-one, erosion-one}
 use Rattle.morphology.proofs.Dilations.{dilating-times}
 use Rattle.morphology.proofs.Erosions.{eroding-times}
@@ -68,11 +68,7 @@ erosion-decided p f s t a = rw (erosion-one p f) at (erosion-n-decided p f 1 s t
 -- an allowed dilation is accepted, exact or filled
 pub dilation-n-allowed : (p f : Octagon) (n : ℕ) → Some (In p) → Some (In f) → n ≤ fold-limit → Allowed (dilation-n p f n) →
     (d : Marked) × (dilation-n p f n ≡ accepted d)
-dilation-n-allowed p f n s t l a = go (other a (allowed-folds n s t l a (dilating-times p f n)))
-  where
-    go : {o : Outcome Marked} → Spreads ((1 ≤ n) × OpposedRows (In p) (In f)) (DilatedTimes n (In p) (In f)) o → (d : Marked) × (o ≡ accepted d)
-    go (says-exact {a = d} n r) = (exact d, refl)
-    go (says-filled {a = d} t c) = (filled d, refl)
+dilation-n-allowed p f n s t l a = spreads-accepted (other a (allowed-folds n s t l a (dilating-times p f n)))
 
 pub dilation-allowed : (p f : Octagon) → Some (In p) → Some (In f) → Allowed (dilation p f) → (d : Marked) × (dilation p f ≡ accepted d)
 dilation-allowed p f s t a = rw (dilation-one p f) at (dilation-n-allowed p f 1 s t (omega arith) (rw (dilation-one p f) a))

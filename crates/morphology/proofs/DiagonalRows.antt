@@ -23,7 +23,7 @@ pub record Line (p q s t : ℤ) : Type 0 where
   pub one-line : # p ⊕ # q ≼ lit 0
   pub many : lit 1 ≼ # s ⊕ # t
 
-row-line : (p q s t : ℤ) → is-row p q s t ≡ true → Line p q s t
+pub row-line : (p q s t : ℤ) → is-row p q s t ≡ true → Line p q s t
 unfolding up dn
 row-line p q s t h =
     let b = both-true (leZ (p +ℤ q) (pos 0)) (leZ (pos 1) (s +ℤ t)) h in
@@ -31,7 +31,7 @@ row-line p q s t h =
     let m = test-le (pos 1) (s +ℤ t) (b .1) in
     record { one-line = omega (arith, l, sum-parts p q); many = omega (arith, m, sum-parts s t) }
 
-line-row : (p q s t : ℤ) → Line p q s t → is-row p q s t ≡ true
+pub line-row : (p q s t : ℤ) → Line p q s t → is-row p q s t ≡ true
 unfolding up dn
 line-row p q s t l =
     and-true (le-test (p +ℤ q) (pos 0) (omega (arith, l .one-line, sum-parts p q))) (le-test (pos 1) (s +ℤ t) (omega (arith, l .many, sum-parts s t)))

@@ -1,6 +1,6 @@
 -- The answers of `dilate_n` and `dilate`, each with the case of documents 01 and 02 in which it is given. Assumes nothing.
 use mathlib.Core.Path.{_≡_, sym, _∙_, ap}
-use mathlib.Core.Logic.{_↔_}
+use mathlib.Core.Logic.{_↔_, inl, inr}
 use mathlib.Core.Bool.{Bool, true, false, cond}
 use Prim.Native.Nat.{ℕ, _≤_}
 use native.Mathlib.Omega.{arith}
@@ -9,18 +9,18 @@ use borrow.Author.Tests.{ltb-true, lt-ltb}
 use Rattle.integers.proofs.Tests.{cases, both-true, and-true, true-is-not-false}
 use Rattle.octagon.specs.declared.Octagon.{Octagon}
 use Rattle.octagon.specs.Outcome.{Outcome, accepted, refused}
-use Rattle.octagon.specs.Cells.{_≐_, In}
+use Rattle.octagon.specs.Cells.{Cells, _≐_, In}
 use Rattle.octagon.specs.NormalForm.{normalised, placed, is-on-map}
 use Rattle.octagon.proofs.Outcomes.{accepted-same, accepted-not-refused, past-test, then-accepted}
 use Rattle.morphology.specs.Sets.{Dilated, DilatedTimes, OpposedRows}
 use Rattle.morphology.specs.Marks.{Marked}
 use Rattle.morphology.specs.Operations.{sums, are-opposed, dilation}
 use Rattle.morphology.specs.Folds.{multiples, fold-limit, are-opposed-in, dilation-n}
-use Rattle.morphology.specs.Cases.{NoOctagon, Spreading, Dilating, DilatingTimes}
+use Rattle.morphology.specs.Cases.{passes, NoOctagon, Spreading, Dilating, DilatingTimes}
 use Rattle.morphology.proofs.DiagonalRows.{not-opposed, not-opposed′}
 use Rattle.morphology.proofs.Multiples.{multiples-dilate}
-use Rattle.morphology.proofs.SetLaws.{same-refl, same-trans, dilated-times-same}
-use Rattle.morphology.proofs.Checks.{by-test, passing, later, after-operands, after, on-both, check-one, operands-one, exactly}
+use Rattle.morphology.proofs.SetLaws.{same-refl, same-sym, same-trans, leaves-same, dilated-comm, dilated-times-same}
+use Rattle.morphology.proofs.Checks.{by-test, passing, passed, later, after-operands, on-operand-of, after, on-both, check-one, operands-one, exactly}
 use Rattle.morphology.proofs.Handed.{spreads-one, spreads-same, placed-spreads, spreading, filled-exactly}
 use Rattle.morphology.proofs.Fillings.{multiples-smallest}
 use Rattle.morphology.proofs.Operands.{Form, form-smallest, Accepted, on-operands}
@@ -106,6 +106,20 @@ dilation-exactly p f = exactly (dilation p f) (operands-one (check-one spreads-o
 -- accepted: exact, the sums of a cell of one and a cell of the other; filled, the smallest octagon that holds them; normalised, and on the map
 pub dilation-accepted : (p f : Octagon) (m : Marked) → dilation p f ≡ accepted m → Spreading (OpposedRows (In p) (In f)) (Dilated (In p) (In f)) m
 dilation-accepted p f m q = spreading m (later (after-operands (dilation-exactly p f (accepted m) .0 q)))
+
+-- whichever operand is put first, with the same mark
+pub dilation-turned : (p f : Octagon) (m : Marked) → dilation p f ≡ accepted m → dilation f p ≡ accepted m
+dilation-turned p f m q =
+    let c = dilation-exactly p f (accepted m) .0 q in
+    let d = after-operands c in
+    let e = dilated-comm (In p) (In f) in
+    dilation-exactly f p (accepted m) .1
+    (on-operand-of (later (later c)) (on-operand-of c
+    (passes (λ l. passed d (leaves-same (same-sym e) l)) (spreads-same (turned, turned) e (later d)))))
+  where
+    turned : {A B : Cells} → OpposedRows A B → OpposedRows B A
+    turned (inl r) = inr (r .1, r .0)
+    turned (inr r) = inl (r .1, r .0)
 
 -- filled exactly where no octagon has just the sums as its cells
 pub dilation-filled : (p f : Octagon) (m : Marked) → dilation p f ≡ accepted m → (m .is-filled ≡ true) ↔ NoOctagon (Dilated (In p) (In f))

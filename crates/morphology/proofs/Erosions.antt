@@ -37,7 +37,7 @@ erosion-n-accepted p f n e q = represented (later (later (after-operands (later 
 
 -- ---- one fold
 
-pub eroding : (p f : Octagon) → Eroding p f (erosion p f)
+eroding : (p f : Octagon) → Eroding p f (erosion p f)
 eroding p f = passing (λ l. omega arith) (rw (erosion-one p f) at (eroding-times p f 1))
 
 pub erosion-exactly : (p f : Octagon) (o : Outcome Octagon) → (erosion p f ≡ o) ↔ Eroding p f o

@@ -6,9 +6,9 @@ use Rattle.octagon.specs.NormalForm.{normalised, placed}
 use Rattle.octagon.proofs.Map.{near-test}
 use Rattle.octagon.proofs.NormalForms.{accepted-near, normalised-again}
 use Rattle.morphology.specs.Marks.{exact}
-use Rattle.morphology.specs.Operations.{sums, differences, dilation, erosion}
+use Rattle.morphology.specs.Operations.{sums, differences, dilation, erosion, opened}
 use Rattle.morphology.specs.Folds.{multiples, dilation-n, erosion-n}
-use Rattle.morphology.specs.Premises.{erosions, erosions-n}
+use Rattle.morphology.specs.Premises.{erosions, erosions-n, opened-n}
 use Rattle.morphology.proofs.Multiples.{sums-zero, sums-suc, differences-zero, differences-suc}
 
 -- the bounds of one fold
@@ -30,6 +30,10 @@ erosion-one p f = simp differences-one
 pub erosions-one : (p f g : Octagon) → erosions-n p f 1 g 1 ≡ erosions p f g
 erosions-one p f g = simp erosion-one
 
+pub opened-one : (p f : Octagon) → opened-n p f 1 ≡ opened p f
+unfolding opened
+opened-one p f = simp (erosion-one, dilation-one)
+
 -- no folds: the first operand, normalised, where both are accepted
 module _ (p f a b : Octagon) (h : normalised p ≡ accepted a) (k : normalised f ≡ accepted b) where
   pub dilation-none : dilation-n p f 0 ≡ accepted (exact a)
@@ -39,3 +43,7 @@ module _ (p f a b : Octagon) (h : normalised p ≡ accepted a) (k : normalised f
   pub erosion-none : erosion-n p f 0 ≡ accepted a
   unfolding erosion-n
   erosion-none = rw (h, k, differences-zero a b, normalised-again p a h) refl
+
+-- and so it is opened by no folds
+pub opened-none : (p f a b : Octagon) → normalised p ≡ accepted a → normalised f ≡ accepted b → opened-n p f 0 ≡ accepted (exact a)
+opened-none p f a b h k = rw (erosion-none p f a b h k) (dilation-none a f a b (normalised-again p a h) k)

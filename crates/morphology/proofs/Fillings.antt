@@ -1,5 +1,6 @@
--- The smallest octagon that holds the sums of two sets has the sums of the bounds of the smallest that hold the two; and a smallest octagon
--- fits into another wherever the set that it was made for does. Assumes nothing.
+-- The smallest octagon that holds the sums of two sets has the sums of the bounds of the smallest that hold the two; a smallest octagon
+-- fits into another wherever the set that it was made for does, and opens of it what is opened by that set, but for what is filled.
+-- Assumes nothing.
 use mathlib.Core.Path.{_≡_, refl, _∙_, ap₂}
 use mathlib.Core.Logic.{_↔_}
 use Prim.Native.Nat.{ℕ, zero, suc}
@@ -10,13 +11,14 @@ use Rattle.octagon.specs.declared.Octagon.{Octagon}
 use Rattle.octagon.specs.Cells.{Cells, _≐_, Some, In, Smallest}
 use Rattle.octagon.specs.OneCell.{one-cell}
 use Rattle.octagon.proofs.Within.{Within, left-sides, within, cell-in}
-use Rattle.octagon.proofs.Smallest.{smallest-when}
-use Rattle.morphology.specs.Sets.{Dilated, Eroded, DilatedTimes}
+use Rattle.octagon.proofs.Smallest.{smallest-when, smallest-unique, smallest-same, smallest-itself}
+use Rattle.morphology.specs.Sets.{Dilated, Eroded, Opened, DilatedTimes}
 use Rattle.morphology.specs.Operations.{sums, differences}
 use Rattle.morphology.specs.Folds.{multiples}
 use Rattle.morphology.proofs.Additive.{Additive, adds0, adds1, adds2, adds3, adds4, adds5, adds6, adds7}
 use Rattle.morphology.proofs.Sums.{Summed, sums-hold}
 use Rattle.morphology.proofs.Differences.{differing}
+use Rattle.morphology.proofs.SetLaws.{same-refl, dilated-same}
 use Rattle.morphology.proofs.Multiples.{sums-zero, sums-suc}
 
 -- ---- sums
@@ -74,3 +76,13 @@ eroded-by-smallest p {d} s x y = (
   λ e v w i. e v w (s .holds v w i),
   λ e v w i. moved p x y v w .1 (s .least (differences p (one-cell x y)) (λ s t j. moved p x y s t .0 (e s t j)) v w i),
 )
+
+-- ---- openings
+
+-- what a smallest octagon d opens has the smallest octagon of what is opened by the set D that d was made for: both are the sums of the bounds
+-- of what is left and of d
+pub opened-by-smallest : (p : Octagon) {d e w : Octagon} {D : Cells} → Smallest d D → Smallest e (Eroded (In p) (In d)) → Smallest w (Opened (In p) (In d)) →
+    Smallest w (Opened (In p) D)
+opened-by-smallest p {d} {e} {w} {D} s t u =
+    renamed (smallest-unique (same-refl (Opened (In p) (In d))) u (sums-smallest t (smallest-itself s)))
+    (smallest-same (dilated-same (eroded-by-smallest p s) (same-refl D)) (sums-smallest t s))

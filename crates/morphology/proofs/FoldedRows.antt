@@ -17,7 +17,7 @@ use Rattle.morphology.specs.Cases.{NoOctagon}
 use Rattle.morphology.proofs.Additive.{Additive, adds1, adds3}
 use Rattle.morphology.proofs.Meet.{Opposed}
 use Rattle.morphology.proofs.Multiples.{multiples-dilate}
-use Rattle.morphology.proofs.SetLaws.{same-refl, same-sym, same-trans, dilated-same, dilated-comm, dilated-times-same, past-one}
+use Rattle.morphology.proofs.SetLaws.{same-refl, same-sym, same-trans, dilated-same, dilated-times-same, dilated-times-once}
 use Rattle.morphology.proofs.Operands.{Form, form-of}
 use Rattle.morphology.proofs.Pairings.{opposed-same, opposed-some, opposed-no-octagon}
 
@@ -54,16 +54,9 @@ opposed-times : {A B : Cells} (n : ℕ) → OpposedRows A B → OpposedRows A (D
 opposed-times n (inl r) = inl (r .0, row-times adds3 n (r .1))
 opposed-times n (inr r) = inr (r .0, row-times adds1 n (r .1))
 
--- ---- n folds as one dilation
+-- ---- the element dilated by itself
 
--- by the element, dilated by itself one time fewer
-times-once : (A B : Cells) (n : ℕ) → DilatedTimes (suc n) A B ≐ Dilated A (DilatedTimes n B B)
-times-once A B n =
-    same-trans (same-sym (past-one A B B n))
-    (same-trans (dilated-times-same n (dilated-comm A B) (same-refl B))
-    (same-trans (past-one B B A n) (dilated-comm (DilatedTimes n B B) A)))
-
--- which is an octagon, as no octagon is opposed to itself
+-- is an octagon, as no octagon is opposed to itself
 own-times : (f b : Octagon) (n : ℕ) → Form f b → In (sums b (multiples n b)) ≐ DilatedTimes n (In f) (In f)
 own-times f b n k =
     same-trans (multiples-dilate n b b (k .normal) (k .normal) (λ _. (alone, alone))) (dilated-times-same n (k .cells) (k .cells))
@@ -78,5 +71,5 @@ opposed-times-no-octagon p f (suc n) l r s e =
     let k = form-of f (opposed-some r .1) in
     let b = normal-form f in
     let c = own-times f b n k in
-    let same-sum = same-trans (times-once (In p) (In f) n) (dilated-same (same-refl (In p)) (same-sym c)) in
+    let same-sum = same-trans (dilated-times-once n (In p) (In f)) (dilated-same (same-refl (In p)) (same-sym c)) in
     opposed-no-octagon p (sums b (multiples n b)) (opposed-same (same-refl (In p)) (same-sym c) (opposed-times n r)) s (same-trans e same-sum)

@@ -6,11 +6,14 @@ use Prim.Native.Nat.{ℕ}
 use Rattle.integers.proofs.Tests.{cases, true-is-not-false}
 use Rattle.octagon.specs.declared.Octagon.{Octagon}
 use Rattle.octagon.specs.Outcome.{Outcome, accepted, refused, off-map}
-use Rattle.octagon.specs.Cells.{Cells, _⊆_, _≐_, Empty, Some, In, OnMap, LeavesMap, Represents, Smallest}
+use Rattle.octagon.specs.Cells.{Cells, _⊆_, _≐_, Empty, Some, In, OnMap, LeavesMap, Represents, Smallest, limit}
 use Rattle.octagon.specs.NormalForm.{normalised, placed}
 use Rattle.octagon.proofs.Outcomes.{accepted-same, accepted-not-refused}
 use Rattle.octagon.proofs.Smallest.{smallest-unique, smallest-same, smallest-normalised, smallest-on-map, smallest-again, smallest-own, placed-within, placed-leaving, within-or-leaving}
 use Rattle.octagon.proofs.Unique.{unique}
+use Rattle.cell_count.specs.Count.{count, inside}
+use Rattle.cell_count.specs.Area.{cell-count}
+use Rattle.cell_count.proofs.Counted.{count-when}
 use Rattle.morphology.specs.Marks.{Marked, exact, filled, marked}
 use Rattle.morphology.specs.Cases.{Check, fails, passes, Stands, stands, Covers, Says, says-exact, says-filled, NoOctagon, Spreads, StaysExact, Spreading}
 use Rattle.morphology.proofs.SetLaws.{same-refl, same-sym, same-trans}
@@ -66,6 +69,10 @@ own-form c = smallest-again (c .smallest) (λ x y i. c .on-the-map x y (c .small
 pub covers-some : {A : Cells} {a : Octagon} → Covers a A → Some (In a)
 covers-some c = smallest-normalised (c .smallest) .some
 
+-- and `count_cells` gives the number of its cells
+pub covers-counted : {A : Cells} {a : Octagon} → Covers a A → cell-count a ≡ accepted (count limit (inside a))
+covers-counted {a = a} c = count-when a (covers-some c) (c .on-the-map)
+
 covers-same : {A B : Cells} {a : Octagon} → A ≐ B → Covers a A → Covers a B
 covers-same e c = record { smallest = smallest-same e (c .smallest); on-the-map = c .on-the-map }
 
@@ -98,6 +105,11 @@ stays-exact-one = says-one represents-one represents-one
 pub spreads-same : {T U : Type 0} {A B : Cells} {o : Outcome Marked} → T ↔ U → A ≐ B → Spreads T A o → Spreads U B o
 spreads-same h e (says-exact n r) = says-exact (λ u. n (h .1 u)) (represents-same e r)
 spreads-same h e (says-filled t c) = says-filled (h .0 t) (covers-same e c)
+
+-- whatever its mark, an octagon is handed back
+pub spreads-accepted : {T : Type 0} {A : Cells} {o : Outcome Marked} → Spreads T A o → (m : Marked) × (o ≡ accepted m)
+spreads-accepted (says-exact {a = a} n r) = (exact a, refl)
+spreads-accepted (says-filled {a = a} t c) = (filled a, refl)
 
 -- the smallest octagon that holds a set, placed, and marked by a test that is false only where it has no other cells
 pub placed-spreads : {T : Type 0} {A : Cells} (s : Octagon) (t : Bool) → Smallest s A → (t ≡ true) ↔ T → (t ≡ false → In s ≐ A) →

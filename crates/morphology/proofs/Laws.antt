@@ -21,7 +21,8 @@ use Rattle.morphology.proofs.Fillings.{eroded-by-smallest}
 use Rattle.morphology.proofs.FewFolds.{dilation-one, erosion-one, erosions-one}
 use Rattle.morphology.proofs.Dilations.{dilation-accepted, accepted-sum}
 use Rattle.morphology.proofs.Erosions.{erosion-accepted, erosion-nothing}
-use Rattle.morphology.proofs.Openings.{opened-inside, opening-steps, opening-accepted}
+use Rattle.morphology.proofs.OpenedSets.{opened-inside}
+use Rattle.morphology.proofs.Openings.{opening-steps, opening-accepted}
 use Rattle.morphology.proofs.Closings.{erosion-of-dilation}
 use Rattle.morphology.proofs.FoldedErosions.{erosions-n-commute}
 

@@ -1,5 +1,6 @@
 -- Theorems on dilation, erosion, opening, closing and the n-fold forms, and what proofs of functions on them cite.
 pub mod SetLaws
+pub mod OpenedSets
 pub mod Additive
 pub mod Meet
 pub mod Sums
@@ -24,6 +25,10 @@ pub mod FoldedErosions
 pub mod FoldedDilations
 pub mod FoldedMarks
 pub mod ComputedFolds
+pub mod LargerElements
+pub mod FoldedElements
+pub mod FoldedOpenings
+pub mod ComputedOpenings
 pub mod Laws
 pub mod Calls
 pub mod Widths

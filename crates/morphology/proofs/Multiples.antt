@@ -1,12 +1,11 @@
 -- n-fold dilations and erosions of octagons by their bounds: n times the element's bounds, added or taken away. Assumes nothing.
 use mathlib.Core.Path.{_≡_}
 use Prim.Native.Nat.{ℕ, zero, suc, _+_, _≤_}
-use native.Mathlib.Nat.{zero-mul, add-zero, add-suc}
+use native.Mathlib.Nat.{add-zero, add-suc}
 use native.Mathlib.Omega.{arith}
 use lib.IntN.{ℤ, pos, _*ℤ_}
-use Rattle.integers.proofs.Parts.{up, dn}
 use Rattle.integers.proofs.Linear.{#, _⊕_, _≈_}
-use Rattle.integers.proofs.Multiples.{times-parts, times-suc}
+use Rattle.integers.proofs.Multiples.{times-zero, times-suc}
 use Rattle.octagon.specs.declared.Octagon.{Octagon}
 use Rattle.octagon.specs.Cells.{_≐_, In}
 use Rattle.octagon.proofs.Within.{Normal}
@@ -34,6 +33,10 @@ multiples-suc n b = record {
   s7 = times-suc n (b .c7);
 }
 
+pub multiples-next : (n : ℕ) (b : Octagon) → sums b (multiples n b) ≡ multiples (suc n) b
+multiples-next n b =
+    summed-same b (multiples n b) (sums b (multiples n b)) (multiples (suc n) b) (summed b (multiples n b)) (let h = multiples-suc n b in omega arith)
+
 -- no times bounds are nothing to add
 multiples-zero : (a b : Octagon) → Summed a (multiples 0 b) a
 unfolding multiples
@@ -49,7 +52,7 @@ multiples-zero a b = record {
 }
   where
     none : (x z : ℤ) → # x ≈ # x ⊕ # (pos 0 *ℤ z)
-    none x z = omega (arith, times-parts 0 z, zero-mul (up z), zero-mul (dn z))
+    none x z = omega (arith, times-zero z)
 
 pub sums-zero : (a b : Octagon) → sums a (multiples 0 b) ≡ a
 sums-zero a b = summed-same a (multiples 0 b) (sums a (multiples 0 b)) a (summed a (multiples 0 b)) (multiples-zero a b)

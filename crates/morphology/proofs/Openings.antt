@@ -1,48 +1,78 @@
--- The answers of `opening`, each with the case of documents 01 and 02 in which it is given. Assumes nothing.
-use mathlib.Core.Path.{_≡_}
+-- The answers of `opening`, each with the case of documents 01 and 02 in which it is given; and those of an n-fold erosion and then an n-fold
+-- dilation, of which one fold is an opening. Assumes nothing.
+use mathlib.Core.Path.{_≡_, _∙_}
 use mathlib.Core.Logic.{_↔_}
 use mathlib.Core.Bool.{true}
+use Prim.Native.Nat.{ℕ, _≤_}
+use native.Mathlib.Omega.{arith}
 use Rattle.octagon.specs.declared.Octagon.{Octagon}
 use Rattle.octagon.specs.Outcome.{Outcome, accepted, then}
-use Rattle.octagon.specs.Cells.{Cells, _⊆_, Empty, In, LeavesMap}
+use Rattle.octagon.specs.Cells.{Empty, In, LeavesMap}
 use Rattle.octagon.proofs.Outcomes.{Through, then-accepted}
-use Rattle.morphology.specs.Sets.{Eroded, Opened, OpposedRows}
+use Rattle.octagon.proofs.Smallest.{some-in}
+use Rattle.morphology.specs.Sets.{Eroded, Opened, ErodedTimes, OpenedTimes, OpposedRows}
 use Rattle.morphology.specs.Marks.{Marked}
 use Rattle.morphology.specs.Operations.{dilation, erosion, opened}
-use Rattle.morphology.specs.Cases.{Stands, stands, NoOctagon, Spreads, Spreading, Opening}
-use Rattle.morphology.proofs.SetLaws.{same-refl, same-sym, same-trans, dilated-same, leaves-same, adjunction}
-use Rattle.morphology.proofs.Checks.{passing, later, after-operands, onward, onward-operands, check-one, operands-one, exactly}
+use Rattle.morphology.specs.Folds.{fold-limit, dilation-n, erosion-n}
+use Rattle.morphology.specs.Premises.{opened-n}
+use Rattle.morphology.specs.Cases.{Stands, stands, NoOctagon, Spreads, Spreading, Opening, OpeningTimes}
+use Rattle.morphology.proofs.SetLaws.{same-refl, same-sym, same-trans, dilated-times-same, leaves-same}
+use Rattle.morphology.proofs.OpenedSets.{opened-times-inside}
+use Rattle.morphology.proofs.Checks.{passing, later, after, on-both, after-operands, onward, onward-operands, check-one, operands-one, exactly}
 use Rattle.morphology.proofs.Handed.{not-empty, stays, itself, spreads-one, spreads-same, spreading, filled-exactly}
-use Rattle.morphology.proofs.Pairings.{opposed-same, opposed-no-octagon}
-use Rattle.morphology.proofs.Dilations.{dilating}
-use Rattle.morphology.proofs.Erosions.{eroding, erosion-accepted}
+use Rattle.morphology.proofs.Pairings.{opposed-same}
+use Rattle.morphology.proofs.FoldedRows.{opposed-times-no-octagon}
+use Rattle.morphology.proofs.FewFolds.{opened-one}
+use Rattle.morphology.proofs.Dilations.{dilating-times}
+use Rattle.morphology.proofs.Erosions.{eroding-times, erosion-n-accepted}
 
--- an opening lies in its plot
-pub opened-inside : (A B : Cells) → Opened A B ⊆ A
-opened-inside A B = adjunction (Eroded A B) A B .1 (λ x y i. i)
+-- ---- n folds
 
-module _ (p f : Octagon) where
+module _ (p f : Octagon) (n : ℕ) where
   -- the dilation of what the erosion left
-  dilated : ¬ (LeavesMap (In p)) → ¬ (Empty (In f)) → ¬ (LeavesMap (In f)) → {o : Outcome Octagon} → Stands (Eroded (In p) (In f)) o →
-      Spreads (OpposedRows (Eroded (In p) (In f)) (In f)) (Opened (In p) (In f)) (then o (λ e. dilation e f))
-  dilated l n m (stands {a = e} r) =
-      let s = r .cells in
-      let t = dilated-same s (same-refl (In f)) in
-      spreads-same (opposed-same s (same-refl (In f)), opposed-same (same-sym s) (same-refl (In f))) t
-      (passing (λ q. l (inside (leaves-same t q)))
-      (passing m (passing n (passing (stays (itself r)) (passing (not-empty (itself r)) (dilating e f))))))
-    where
-      inside : LeavesMap (Opened (In p) (In f)) → LeavesMap (In p)
-      inside q = record { x = q .x; y = q .y; cell = (opened-inside (In p) (In f) (q .x) (q .y) (q .cell .0), q .cell .1) }
+  dilated : n ≤ fold-limit → ¬ (LeavesMap (In p)) → ¬ (Empty (In f)) → ¬ (LeavesMap (In f)) → {o : Outcome Octagon} → Stands (ErodedTimes n (In p) (In f)) o →
+      Spreads ((1 ≤ n) × OpposedRows (ErodedTimes n (In p) (In f)) (In f)) (OpenedTimes n (In p) (In f)) (then o (λ e. dilation-n e f n))
+  dilated l i s t (stands {a = e} r) =
+      let c = r .cells in
+      let d = dilated-times-same n c (same-refl (In f)) in
+      spreads-same
+      (λ h. (h .0, opposed-same c (same-refl (In f)) (h .1)), λ h. (h .0, opposed-same (same-sym c) (same-refl (In f)) (h .1))) d
+      (passing (λ q. i (some-in (opened-times-inside n (In p) (In f)) (leaves-same d q)))
+      (passing t (passing s (passing (stays (itself r)) (passing (not-empty (itself r)) (passing (λ m. omega arith) (dilating-times e f n)))))))
 
-  -- one of the cases holds of any operands
-  opening : Opening p f (opened p f)
-  unfolding opened
-  opening =
-      let g : Octagon → Outcome Marked = λ e. dilation e f in
-      onward-operands g (λ _ l n m. onward g (λ _. onward g (λ _. dilated l n m))) (eroding p f)
+  -- one of the cases holds of any operands and any n
+  pub opening-times : OpeningTimes p f n (opened-n p f n)
+  opening-times =
+      let g : Octagon → Outcome Marked = λ e. dilation-n e f n in
+      onward g (λ l. onward-operands g (λ _ i s t. onward g (λ _. onward g (λ _. dilated (omega arith) i s t)))) (eroding-times p f n)
 
   -- and each answer is given exactly where its case holds
+  pub opened-n-exactly : (o : Outcome Marked) → (opened-n p f n ≡ o) ↔ OpeningTimes p f n o
+  opened-n-exactly = exactly (opened-n p f n) (check-one (operands-one (check-one (check-one spreads-one)))) opening-times
+
+  -- accepted: exact, the set opened by n folds; filled, the smallest octagon that holds it; normalised, and on the map
+  pub opened-n-accepted : (m : Marked) → opened-n p f n ≡ accepted m →
+      Spreading ((1 ≤ n) × OpposedRows (ErodedTimes n (In p) (In f)) (In f)) (OpenedTimes n (In p) (In f)) m
+  opened-n-accepted m q = spreading m (later (later (after-operands (later (opened-n-exactly (accepted m) .0 q)))))
+
+  -- filled exactly where no octagon has just that set's cells
+  pub opened-n-filled : (m : Marked) → opened-n p f n ≡ accepted m → (m .is-filled ≡ true) ↔ NoOctagon (OpenedTimes n (In p) (In f))
+  opened-n-filled m q = filled-exactly m (opened-n-accepted m q) no-octagon
+    where
+      no-octagon : (1 ≤ n) × OpposedRows (ErodedTimes n (In p) (In f)) (In f) → NoOctagon (OpenedTimes n (In p) (In f))
+      no-octagon h s i =
+          let t = then-accepted (erosion-n p f n) (λ e. dilation-n e f n) m q in
+          let c = same-sym (erosion-n-accepted p f n (t .between) (t .first) .cells) in
+          opposed-times-no-octagon (t .between) f n (h .0) (opposed-same c (same-refl (In f)) (h .1)) s (same-trans i (dilated-times-same n c (same-refl (In f))))
+
+-- ---- one fold
+
+module _ (p f : Octagon) where
+  pub opening : Opening p f (opened p f)
+  opening =
+      on-both (after (after (spreads-same (λ t. t .1, λ r. (omega arith, r)) (same-refl (Opened (In p) (In f))))))
+      (passing (λ l. omega arith) (rw (opened-one p f) at (opening-times p f 1)))
+
   pub opening-exactly : (o : Outcome Marked) → (opened p f ≡ o) ↔ Opening p f o
   opening-exactly = exactly (opened p f) (operands-one (check-one (check-one spreads-one))) opening
 
@@ -57,10 +87,4 @@ module _ (p f : Octagon) where
 
   -- filled exactly where no octagon has just those cells
   pub opening-filled : (m : Marked) → opened p f ≡ accepted m → (m .is-filled ≡ true) ↔ NoOctagon (Opened (In p) (In f))
-  opening-filled m q = filled-exactly m (opening-accepted m q) no-octagon
-    where
-      no-octagon : OpposedRows (Eroded (In p) (In f)) (In f) → NoOctagon (Opened (In p) (In f))
-      no-octagon r s h =
-          let t = opening-steps m q in
-          let c = same-sym (erosion-accepted p f (t .between) (t .first) .cells) in
-          opposed-no-octagon (t .between) f (opposed-same c (same-refl (In f)) r) s (same-trans h (dilated-same c (same-refl (In f))))
+  opening-filled m q = opened-n-filled p f 1 m (opened-one p f ∙ q)

@@ -114,8 +114,13 @@ swapped A B C x y s =
     turned : (a b c d x : ℤ) → a +ℤ b ≡ c → c +ℤ d ≡ x → (a +ℤ d) +ℤ b ≡ x
     turned a b c d x h k = rw (+ℤ-assoc a d b, +ℤ-comm d b, ← +ℤ-assoc a b d, h) k
 
-swap : (A B C : Cells) → Dilated (Dilated A B) C ≐ Dilated (Dilated A C) B
+pub swap : (A B C : Cells) → Dilated (Dilated A B) C ≐ Dilated (Dilated A C) B
 swap A B C x y = (swapped A B C x y, swapped A C B x y)
+
+-- nor on how two dilations are grouped
+pub dilated-assoc : (A B C : Cells) → Dilated A (Dilated B C) ≐ Dilated (Dilated A B) C
+dilated-assoc A B C =
+    same-trans (dilated-comm A (Dilated B C)) (same-trans (swap B C A) (dilated-same (dilated-comm B A) (same-refl C)))
 
 -- so a dilation can be made before k folds or after them, and so can m folds
 pub past-one : (A B C : Cells) (k : ℕ) → DilatedTimes k (Dilated A C) B ≐ Dilated (DilatedTimes k A B) C
@@ -125,6 +130,12 @@ past-one A B C (suc k) = same-trans (dilated-same (past-one A B C k) (same-refl 
 pub past : (A B C : Cells) (k m : ℕ) → DilatedTimes k (DilatedTimes m A C) B ≐ DilatedTimes m (DilatedTimes k A B) C
 past A B C k zero = same-refl (DilatedTimes k A B)
 past A B C k (suc m) = same-trans (past-one (DilatedTimes m A C) B C k) (dilated-same (past A B C k m) (same-refl C))
+
+-- n + 1 folds are one dilation by the element dilated by itself n times
+pub dilated-times-once : (n : ℕ) (A B : Cells) → DilatedTimes (suc n) A B ≐ Dilated A (DilatedTimes n B B)
+dilated-times-once zero A B = same-refl (Dilated A B)
+dilated-times-once (suc n) A B =
+    same-trans (dilated-same (dilated-times-once n A B) (same-refl B)) (same-sym (dilated-assoc A (DilatedTimes n B B) B))
 
 -- x + (v + w) as a sum of x + w and v
 regroup : (x v w : ℤ) → (x +ℤ w) +ℤ v ≡ x +ℤ (v +ℤ w)
@@ -143,6 +154,11 @@ eroded-twice A B C x y = (to, from)
     from e v w c p q b =
         rw (regroup x p v, regroup y q w)
         (e (p +ℤ v) (q +ℤ w) (record { ax = p; ay = q; bx = v; by = w; of-a = b; of-b = c; sum-x = refl; sum-y = refl }))
+
+-- and so are n + 1 folds
+pub eroded-times-once : (n : ℕ) (A B : Cells) → ErodedTimes (suc n) A B ≐ Eroded A (DilatedTimes n B B)
+eroded-times-once zero A B = same-refl (Eroded A B)
+eroded-times-once (suc n) A B = same-trans (eroded-same (eroded-times-once n A B) (same-refl B)) (eroded-twice A (DilatedTimes n B B) B)
 
 -- the dilation of X by B lies in A exactly where X lies in the erosion of A by B
 pub adjunction : (X A B : Cells) → (Dilated X B ⊆ A) ↔ (X ⊆ Eroded A B)

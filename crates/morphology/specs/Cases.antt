@@ -7,7 +7,7 @@ use Prim.Native.Nat.{ℕ, _<_, _≤_}
 use Rattle.octagon.specs.declared.Octagon.{Octagon}
 use Rattle.octagon.specs.Outcome.{Outcome, accepted, refused, no-cell, off-map}
 use Rattle.octagon.specs.Cells.{Cells, _⊆_, _≐_, Empty, In, OnMap, LeavesMap, Represents, Smallest}
-use Rattle.morphology.specs.Sets.{Dilated, Eroded, Opened, Closed, DilatedTimes, ErodedTimes, OpposedRows}
+use Rattle.morphology.specs.Sets.{Dilated, Eroded, Opened, Closed, DilatedTimes, ErodedTimes, OpenedTimes, OpposedRows}
 use Rattle.morphology.specs.Marks.{Marked, exact, filled}
 use Rattle.morphology.specs.Operations.{nothing-left}
 use Rattle.morphology.specs.Folds.{fold-limit, too-many-folds}
@@ -103,3 +103,13 @@ DilatingTimes p f n =
 -- n-fold erosion: "5, then 2, judged on the final set only"
 abbrev pub ErodingTimes : Octagon → Octagon → ℕ → Answers Octagon
 ErodingTimes p f n = OnFolds n (OnOperands p f (Fitting (ErodedTimes n (In p) (In f))))
+
+-- n-fold erosion, then n-fold dilation: the erosion's refusals, as of an opening; filled where n is at least 1 and what is left and f are
+-- opposed rows
+abbrev pub OpeningTimes : Octagon → Octagon → ℕ → Answers Marked
+OpeningTimes p f n =
+    OnFolds n
+    (OnOperands p f
+    (Check (Empty (ErodedTimes n (In p) (In f))) nothing-left
+    (Check (LeavesMap (ErodedTimes n (In p) (In f))) off-map
+    (Spreads ((1 ≤ n) × OpposedRows (ErodedTimes n (In p) (In f)) (In f)) (OpenedTimes n (In p) (In f))))))

@@ -1,5 +1,5 @@
--- The words of the laws of demand 3 ("What the laws compare" of document 01) and of document 02's U7: what they ask of the calls that they
--- name, and what those with several parts say. Assumes nothing.
+-- The words of the laws of demand 3 ("What the laws compare" of document 01) and of document 02's U7 and U8: what they ask of the calls that
+-- they name, and what those with several parts say. Assumes nothing.
 use mathlib.Core.Path.{_≡_}
 use mathlib.Core.Logic.{_↔_, _⊎_}
 use Prim.Native.Nat.{ℕ}
@@ -8,7 +8,7 @@ use Rattle.octagon.specs.Outcome.{Outcome, accepted, refused, then, off-map}
 use Rattle.octagon.specs.Cells.{_⊆_, In}
 use Rattle.octagon.specs.NormalForm.{normalised}
 use Rattle.morphology.specs.Marks.{Marked}
-use Rattle.morphology.specs.Operations.{nothing-left, dilation, erosion}
+use Rattle.morphology.specs.Operations.{nothing-left, dilation, erosion, opened}
 use Rattle.morphology.specs.Folds.{dilation-n, erosion-n}
 
 -- a call that is not refused as off the map
@@ -58,3 +58,13 @@ dilations-n p f m n = then (dilation-n p f m) (λ d. dilation-n (d .octagon) f n
 -- eroding m times by f, and then what is left n times by g; where the first gives 5, that is the answer of the two
 abbrev pub erosions-n : Octagon → Octagon → ℕ → Octagon → ℕ → Outcome Octagon
 erosions-n p f m g n = then (erosion-n p f m) (λ e. erosion-n e g n)
+
+-- ---- openings by more (U8)
+
+-- opening by the dilation of f and g, exact or filled: "a plot opened by F spread with G"; a refusal of the first is the answer of the two
+abbrev pub opening-by-both : Octagon → Octagon → Octagon → Outcome Marked
+opening-by-both p f g = then (dilation f g) (λ d. opened p (d .octagon))
+
+-- eroding n times by f, and then dilating what is left n times; a refusal of the first is the answer of the two
+abbrev pub opened-n : Octagon → Octagon → ℕ → Outcome Marked
+opened-n p f n = then (erosion-n p f n) (λ e. dilation-n e f n)

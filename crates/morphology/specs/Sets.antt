@@ -1,4 +1,5 @@
--- The operations of mathematical morphology on sets of cells: definitions 2.12 to 2.17 of document 002, and document 01's diagonal rows.
+-- The operations of mathematical morphology on sets of cells: definitions 2.12 to 2.17 of document 002, document 004's
+-- openings by n folds, and document 01's diagonal rows.
 -- This file is what a reader must believe of the operations. Assumes nothing.
 use mathlib.Core.Path.{_≡_}
 use mathlib.Core.Logic.{_⊎_}
@@ -38,6 +39,10 @@ DilatedTimes (suc n) A B = Dilated (DilatedTimes n A B) B
 abbrev pub ErodedTimes : ℕ → Cells → Cells → Cells
 ErodedTimes zero A B = A
 ErodedTimes (suc n) A B = Eroded (ErodedTimes n A B) B
+
+-- the opening of A by n folds of B: the n-fold erosion, then the n-fold dilation (document 004's multi-scale opening at scale n, its (7))
+abbrev pub OpenedTimes : ℕ → Cells → Cells → Cells
+OpenedTimes n A B = DilatedTimes n (ErodedTimes n A B) B
 
 -- two cells of A in different columns
 pub record Two (A : Cells) : Type 0 where

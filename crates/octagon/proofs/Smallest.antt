@@ -142,7 +142,10 @@ smallest-accepted c a = (means a, given)
         let w = accepted-when c (record { x = r .x; y = r .y; cell = r .cell .0 }) (h .1) in
         w .1 ∙ ap accepted (smallest-unique (λ x y. (λ k. k, λ k. k)) (means (w .0) (w .1) .0) (h .0))
 
+-- the smallest octagon of a set is that of its own cells
+pub smallest-itself : {a : Octagon} {A : Cells} → Smallest a A → Smallest a (In a)
+smallest-itself {a} s = smallest-own a a .1 (smallest-normalised s, λ x y. (λ i. i, λ i. i))
+
 -- so `normalise` gives a smallest octagon back, where the set is on the map
 pub smallest-again : {a : Octagon} {A : Cells} → Smallest a A → A ⊆ OnMap → normalised a ≡ accepted a
-smallest-again {a} s m =
-    smallest-accepted a a .1 (smallest-own a a .1 (smallest-normalised s, λ x y. (λ i. i, λ i. i)), smallest-on-map s m)
+smallest-again {a} s m = smallest-accepted a a .1 (smallest-itself s, smallest-on-map s m)

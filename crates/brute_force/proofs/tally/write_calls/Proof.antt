@@ -8,7 +8,7 @@ abbrev Inv-loop : tie.InvT-loop
 Inv-loop bench call₀ call = Unit {0}
 
 abbrev μ-loop : tie.MeasureT-loop
-μ-loop bench call₀ call = 14 - call
+μ-loop bench call₀ call = 15 - call
 
 pub write-calls-spec : {M : Type 1} → statement M
 write-calls-spec =
