@@ -11,8 +11,8 @@ and that no octagon has just its sums is asserted beside it. The triangles of a 
 pieces from what the rows leave until nothing is left. Folds in two calls are those of the smallest octagon that holds what
 the first gave. As many folds as the limit has, or nearly, are told from the plot, moved by that many times each cell of the
 element. A plot is opened too by the smallest octagon that holds the sums of its element and that of the pair before, or K2 or
-K4; that the opening lies inside the one by the element alone is asserted. "agreed" is the number of comparisons that the program makes,
-since every answer has to agree.
+K4; that the opening lies inside the one by the element alone is asserted. "agreed" is the number of comparisons that the
+program makes, since every answer has to agree.
 """
 
 from fractions import Fraction

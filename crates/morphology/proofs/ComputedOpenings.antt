@@ -68,26 +68,25 @@ cells-opened = refl
 
 -- ---- rows
 
--- opposed rows, and their spread, which is filled: it has two cells that no position of either row inside it covers, and is open to itself
-abbrev filled-both : Octagon
-filled-both = bounds (pos 1) (pos 11) (pos 12) (pos 13) (pos 2) (negsuc 8) (negsuc 8) (negsuc 8)
-
-pub opened-by-filled : dilation rising-row falling-row ∷ opened filled-both rising-row ∷ opened filled-both falling-row ∷ opened filled-both filled-both ∷ []
-    ≡ accepted (filled filled-both) ∷ accepted (filled filled-both) ∷ accepted (filled filled-both) ∷ accepted (exact filled-both) ∷ []
-unfolding dilation erosion opened normalised normal-form tight-odd tight-even even-bound odd-bound minℤ halfℤ has-cell placed is-on-map sums differences are-opposed is-rising is-falling
-opened-by-filled = refl
-
--- a row and a shorter one of its kind, and a plot that each opens exactly, and both spread together filled
+-- a row, a shorter one of its kind, and the two spread together
 abbrev shorter-row : Octagon
 shorter-row = bounds (negsuc 4) (negsuc 6) (negsuc 0) (pos 5) (pos 6) (pos 7) (pos 2) (negsuc 2)
 
 abbrev longer-row : Octagon
 longer-row = bounds (negsuc 5) (negsuc 4) (pos 4) (pos 13) (pos 9) (pos 5) (negsuc 0) (negsuc 6)
 
+-- that spread with a row opposed to it, which is filled: it has three cells that no position of either of the two inside it covers, and is
+-- open to itself
 abbrev slanting : Octagon
 slanting = bounds (negsuc 3) (pos 4) (pos 11) (pos 18) (pos 8) (negsuc 1) (negsuc 6) (negsuc 11)
 
-pub filled-by-longer : dilation rising-row shorter-row ∷ opened slanting rising-row ∷ opened slanting shorter-row ∷ opened slanting longer-row ∷ []
+pub opened-by-filled : dilation longer-row falling-row ∷ opened slanting longer-row ∷ opened slanting falling-row ∷ opened slanting slanting ∷ []
+    ≡ accepted (filled slanting) ∷ accepted (filled slanting) ∷ accepted (filled slanting) ∷ accepted (exact slanting) ∷ []
+unfolding dilation erosion opened normalised normal-form tight-odd tight-even even-bound odd-bound minℤ halfℤ has-cell placed is-on-map sums differences are-opposed is-rising is-falling
+opened-by-filled = refl
+
+-- the row and the shorter one each open it exactly, and the two spread together filled
+pub filled-by-longer : dilation rising-row shorter-row ∷ opened slanting rising-row ∷ opened slanting shorter-row ∷ opening-by-both slanting rising-row shorter-row ∷ []
     ≡ accepted (exact longer-row) ∷ accepted (exact slanting) ∷ accepted (exact slanting) ∷ accepted (filled slanting) ∷ []
 unfolding dilation erosion opened normalised normal-form tight-odd tight-even even-bound odd-bound minℤ halfℤ has-cell placed is-on-map sums differences are-opposed is-rising is-falling
 filled-by-longer = refl
@@ -116,10 +115,10 @@ fewer-off-map = refl
 
 -- three cells, and two of them: the three open all of themselves, and the two open two
 abbrev triangle-of-three : Octagon
-triangle-of-three = bounds (pos 2) (pos 7) (pos 5) (pos 3) (negsuc 0) (negsuc 4) (negsuc 3) (negsuc 1)
+triangle-of-three = bounds (pos 8) (pos 12) (pos 4) (negsuc 3) (negsuc 6) (negsuc 9) (negsuc 2) (pos 5)
 
 abbrev side-of-two : Octagon
-side-of-two = bounds (pos 2) (pos 7) (pos 5) (pos 3) (negsuc 1) (negsuc 5) (negsuc 3) (negsuc 1)
+side-of-two = bounds (pos 8) (pos 12) (pos 4) (negsuc 3) (negsuc 7) (negsuc 10) (negsuc 2) (pos 5)
 
 pub holding-opens-more : opened triangle-of-three side-of-two ∷ opened triangle-of-three triangle-of-three ∷ []
     ≡ accepted (exact side-of-two) ∷ accepted (exact triangle-of-three) ∷ []
