@@ -1,5 +1,5 @@
 /* Times the exported calls beside plain C, in one run, on the same inputs: those on octagons, tapes and trees here, those on sheets in
- * benchmark_sheets.c. */
+ * benchmark_sheets.c, and the spectrum in benchmark_spectra.c. */
 #include "benchmark.h"
 #include <stdlib.h>
 #include <string.h>
@@ -165,7 +165,7 @@ int main(void) {
     fill_tape();
     fill_trees();
     fill_many();
-    printf("%-12s %12s %12s %8s\n", "ns per call", "proved", "plain C", "ratio");
+    printf("%-15s %9s %12s %8s\n", "ns per call", "proved", "plain C", "ratio");
     COMPARE("normalise", TURNS, time_one, kx_normalise, plain_normalise);
     COMPARE("count", TURNS, time_count, kx_count, plain_count);
     COMPARE("dilate", TURNS, time_spread, kx_dilate, plain_dilate);
@@ -176,6 +176,7 @@ int main(void) {
     COMPARE("split, many", TURNS * INPUTS / MANY, time_split_many, kx_decompose, plain_decompose);
     COMPARE("enclose", TURNS, time_enclose, kx_enclose, plain_enclose);
     COMPARE("clearance", TURNS, time_clearance, kx_clearance, plain_clearance);
+    benchmark_spectra();
     benchmark_sheets();
     return 0;
 }

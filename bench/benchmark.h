@@ -15,10 +15,11 @@ int32_t from(int32_t low, int32_t high);
 /* The time in nanoseconds. */
 double now(void);
 
-/* The calls on sheets (benchmark_sheets.c). */
+/* The calls on sheets (benchmark_sheets.c), and the spectrum (benchmark_spectra.c). */
 void benchmark_sheets(void);
+void benchmark_spectra(void);
 
-static inline void say(const char *name, double proved, double plain) { printf("%-12s %12.2f %12.2f %8.2f\n", name, proved, plain, proved / plain); }
+static inline void say(const char *name, double proved, double plain) { printf("%-15s %9.2f %12.2f %8.2f\n", name, proved, plain, proved / plain); }
 
 #define COMPARE(name, turns, time, proved, plain)                                                                      \
     do {                                                                                                               \

@@ -24,6 +24,15 @@ uint32_t random_pair(int32_t p[8], int32_t f[8]);
 /* Two elements, mostly small and often rows, and a plot that mostly has room for the one spread with the other, and often not much more
  * (input_pairs.c). */
 void random_triple(int32_t p[8], int32_t f[8], int32_t g[8]);
+/* The bounds of a row of so many steps upward from (0, 0), to the right or to the left; and bounds moved (input_pairs.c). */
+void row(int32_t c[8], int32_t steps, int rising);
+void move(int32_t c[8], int32_t x, int32_t y);
+/* How far to move what reaches from -down to up along a line: so that it ends at an edge of the map or next to it, or anywhere
+ * (input_pairs.c). */
+int32_t shift(int32_t down, int32_t up);
+/* A plot and a frame that opens it, mostly with (0, 0) and another cell, in few folds or in many; some plots are opened to filled octagons,
+ * and either operand may have no cell or leave the map (input_spectra.c). */
+void random_spectrum(int32_t p[8], int32_t f[8]);
 
 /* ---- sheets (input_sheets.c) */
 
@@ -69,6 +78,10 @@ extern uint64_t second_spreads, second_trims, marks_differ, trims_off_map;
  * have a filled spread, and of how many one opening is filled and the other exact; how often the opening by the element alone leaves the
  * map. */
 extern uint64_t opened_less, opened_by_filled, opened_unlike, opened_off_map;
+/* The calls for a spectrum: how many were made, and how many of them finish, or are spent; how many are refused with 19, and with 20. The
+ * spectra that were drawn: how many are worked out by cells too, how many entries they have, how many of these come of a filled opening, and
+ * how many plots were moved. */
+extern uint64_t spectrum_calls, finished, spent, lacks_origin, origin_alone, spectra_by_cells, entries, filled_entries, spectra_moved;
 /* Writes the difference and ends the program. */
 void differ(const char *call, const int32_t *p, const int32_t *f, uint32_t got, uint32_t want);
 void count_answer(uint32_t number);
@@ -103,7 +116,7 @@ plot plot_of(uint32_t i);
 uint32_t compare_join(const half *first, const half *second, size_t room, size_t *len);
 
 /* ---- the parts (compare_octagons.c, compare_pairs.c, compare_triples.c, compare_lengths.c, compare_random_sheets.c,
- * compare_full_sheets.c, compare_tapes.c, compare_trees.c, compare_joins.c, compare_full_joins.c) */
+ * compare_full_sheets.c, compare_tapes.c, compare_trees.c, compare_joins.c, compare_full_joins.c, compare_spectra.c) */
 
 void compare_one(const int32_t c[8], uint64_t round);
 void compare_two(const int32_t p[8], const int32_t f[8], uint32_t n);
@@ -129,5 +142,9 @@ void compare_radii(void);
 void compare_pair_of_sheets(void);
 /* The joins that fill a sheet, and those next to them. */
 void compare_full_joins(void);
+/* A random plot and frame, with lists of several lengths, slices of wrong ones, and the plot moved. */
+void compare_spectrum(void);
+/* The spectra of the whole map, and the smallest that is filled. */
+void compare_known_spectra(void);
 
 #endif

@@ -45,15 +45,17 @@ void compare_constants(void) {
     uint32_t count = 77;
     size_t len = 5, grown = 5;
     /* a line: thirteen words of at most twenty digits, each with one byte after it; a text: a line for each record, and two more */
-    const int named[] = {KX_MAP_LIMIT, KX_FOLD_LIMIT, KX_RADIUS_LIMIT, KX_SHEET_LIMIT, KX_RECORD, KX_FEE_RECORD, KX_BASE_RECORD, KX_TRAILER, KX_BOUNDS, KX_START, KX_SIDES, KX_COUNTS, KX_PLACE, KX_LINE, KX_TEXT, KX_EXACT, KX_FILLED};
-    const int wanted[] = {LIMIT, FOLDS, RADIUS, SHEET, RECORD, 26, BASE_RECORD, TRAILER, 8, 2, 8, PIECES, 2, 13 * 21, 13 * 21 * (MOST_PLOTS + 2), 0, 1};
-    agree("the constants", NULL, 0, 0, !memcmp(named, wanted, sizeof named));
+    const int named[] = {KX_MAP_LIMIT, KX_FOLD_LIMIT, KX_RADIUS_LIMIT, KX_SHEET_LIMIT, KX_RECORD, KX_FEE_RECORD, KX_BASE_RECORD, KX_TRAILER, KX_BOUNDS, KX_START, KX_SIDES, KX_COUNTS, KX_PLACE, KX_LINE, KX_TEXT, KX_EXACT, KX_FILLED, KX_SPENT, KX_FINISHED};
+    const int wanted[] = {LIMIT, FOLDS, RADIUS, SHEET, RECORD, 26, BASE_RECORD, TRAILER, 8, 2, 8, PIECES, 2, 13 * 21, 13 * 21 * (MOST_PLOTS + 2), 0, 1, 0, 1};
+    if (memcmp(named, wanted, sizeof named))
+        differ("the constants", NULL, NULL, 1, 0);
     const int refusals[] = {KX_NO_CELL, KX_OFF_MAP, KX_NOT_CLOSED, KX_NOTHING_LEFT, KX_TOO_MANY_FOLDS, KX_NO_VERTEX, KX_BAD_LENGTH,
         KX_BAD_TRAILER, KX_BAD_DISTANCE, KX_BAD_NUMBER, KX_NO_ROOM, KX_NO_RECORD, KX_NOT_FINITE, KX_NO_POINT, KX_HALF_POINT, KX_TOO_WIDE,
-        KX_TWO_RECORDS};
-    const uint32_t numbers[] = {1, 2, 3, 5, 6, 7, 8, 9, 10, 11, 12, 13, 14, 15, 16, 17, 18};
+        KX_TWO_RECORDS, KX_NO_ORIGIN, KX_NO_OTHER_CELL};
+    const uint32_t numbers[] = {1, 2, 3, 5, 6, 7, 8, 9, 10, 11, 12, 13, 14, 15, 16, 17, 18, 19, 20};
     for (int k = 0; k < (int)(sizeof numbers / sizeof *numbers); k++)
-        agree("the numbers of the refusals", NULL, (uint32_t)refusals[k], numbers[k], 1);
+        if ((uint32_t)refusals[k] != numbers[k])
+            differ("the numbers of the refusals", NULL, NULL, (uint32_t)refusals[k], numbers[k]);
     agree("the map limit", NULL, kx_to_octagon(edge, KX_START, none, KX_SIDES, out, KX_BOUNDS), 0, 1);
     agree("past the map limit", NULL, kx_to_octagon(past, KX_START, none, KX_SIDES, out, KX_BOUNDS), KX_OFF_MAP, 1);
     agree("the fold limit", NULL, kx_erode_n(cell, KX_BOUNDS, cell, KX_BOUNDS, KX_FOLD_LIMIT, out, KX_BOUNDS), 0, 1);

@@ -14,15 +14,14 @@ static uint32_t random_two(int32_t p[8], int32_t f[8]) {
     return few_or_any();
 }
 
-/* The bounds of a row of so many steps upward from (0, 0), to the right or to the left. */
-static void row(int32_t c[8], int32_t steps, int rising) {
+void row(int32_t c[8], int32_t steps, int rising) {
     for (int k = 0; k < 8; k++) {
         int64_t end = reach(k, rising ? steps : -steps, steps);
         c[k] = end > 0 ? (int32_t)end : 0;
     }
 }
 
-static void move(int32_t c[8], int32_t x, int32_t y) {
+void move(int32_t c[8], int32_t x, int32_t y) {
     for (int k = 0; k < 8; k++)
         c[k] += (int32_t)reach(k, x, y);
 }
@@ -30,8 +29,7 @@ static void move(int32_t c[8], int32_t x, int32_t y) {
 /* A few steps, or one time in eight any number of them up to the most. */
 static int32_t steps(int32_t few, int32_t most) { return from(0, any() % 8 && few < most ? few : most); }
 
-/* How far to move what reaches from -down to up along a line: so that it ends at an edge of the map or next to it, or anywhere. */
-static int32_t shift(int32_t down, int32_t up) {
+int32_t shift(int32_t down, int32_t up) {
     switch (any() % 4) {
     case 0: return LIMIT - up + from(-2, 2);
     case 1: return down - LIMIT + from(-2, 2);

@@ -1,7 +1,8 @@
 /* What documents 01 and 02 say of each call, worked out without the library's formulas: by sets of cells on a window of the grid
  * (cells.c), by walking outlines (walks.c), by searching the rows and columns of any eight bounds (search.c), by the rule of the
  * pieces (splits.c), by bytes (sheets.c), by a sorted list of plots (joins.c), by printf (listings.c), from the bits of a number
- * (tapes.c) and by the squares of distances (trees.c). */
+ * (tapes.c), by the squares of distances (trees.c) and by opening a plot fold by fold, cell by cell (spectra.c). Sums, differences and multiples of
+ * bounds too large for sets of cells are the library's. */
 #ifndef ORACLE_H
 #define ORACLE_H
 #include <stddef.h>
@@ -12,8 +13,8 @@ extern const int STEP[8][2];
 
 /* The limits and lengths of documents 01 and 02: a record ends with a fee row, a base record has none. */
 enum { LIMIT = 16000, FOLDS = 65535, RADIUS = 255, SHEET = 65536, RECORD = 26, BASE_RECORD = 24, TRAILER = 16, PIECES = 13 };
-/* The most records of a sheet. */
-enum { MOST_PLOTS = (SHEET - TRAILER) / BASE_RECORD };
+/* The most records of a sheet, and the most entries of a spectrum: as many as the map has columns. */
+enum { MOST_PLOTS = (SHEET - TRAILER) / BASE_RECORD, MOST_ENTRIES = 2 * LIMIT + 1 };
 
 /* What a call answers: a number, and where it is 0 the normalised bounds, and whether a spread has filled them. */
 typedef struct {
@@ -41,6 +42,14 @@ typedef struct {
     size_t first;
     uint32_t count, each;
 } frame;
+
+/* What a plot and the frame that opens it give: a number, and where it is 0 the entries up to the last one, and how many of them are worked
+ * out from a filled opening. */
+typedef struct {
+    uint32_t number;
+    size_t count, filled;
+    uint32_t entry[MOST_ENTRIES];
+} spectrum;
 
 /* A sheet that is only read: its buffer, the bytes of that, and the bytes of the sheet. */
 typedef struct {
@@ -107,6 +116,8 @@ answer closing_by_search(const int32_t p[8], const int32_t f[8]);
 /* The corners of normalised bounds, from their lowest and highest rows and columns. */
 void corners_by_search(const int64_t c[8], int64_t at[8][2]);
 uint64_t count_by_rows(const int64_t c[8]);
+/* Whether normalised bounds are those of opposed rows. */
+int are_opposed_bounds(const int64_t a[8], const int64_t b[8]);
 
 /* ---- by the rule of the pieces */
 
@@ -157,5 +168,13 @@ answer enclosed(const double *tape, size_t len);
 answer clearance_by_cells(const tree *t);
 /* The same from the cells about (0, 0), which are enumerated once for each radius and then moved. */
 answer clearance_by_discs(const tree *t);
+
+/* ---- spectra */
+
+/* The plot trimmed and spread cell by cell, and the cells of each opening that the next one has not; both operands within OPERAND cells. */
+void spectrum_by_cells(const cells *p, const cells *f, spectrum *s);
+/* The same by the bounds that the operands reach: their multiples, differences and sums as the library has them, normalised by search, and
+ * cells counted from corners. */
+void spectrum_by_search(const int32_t p[8], const int32_t f[8], spectrum *s);
 
 #endif

@@ -96,6 +96,8 @@ static answer of_bounds(const int32_t c[8]) {
 /* one line along a diagonal, and more than one cell on it */
 static int is_row(const int64_t c[8], int k) { return c[k] == -c[(k + 4) % 8] && c[2] != -c[6]; }
 
+int are_opposed_bounds(const int64_t a[8], const int64_t b[8]) { return (is_row(a, 1) && is_row(b, 3)) || (is_row(a, 3) && is_row(b, 1)); }
+
 /* The normal form of the first operand, with the first refusal of the two. */
 static answer of_both(const int32_t p[8], const int32_t f[8], answer *b) {
     answer a = of_bounds(p);
@@ -109,7 +111,7 @@ answer dilation_by_search(const int32_t p[8], const int32_t f[8], uint32_t n) {
     answer b, a = of_both(p, f, &b);
     if (a.number)
         return a;
-    a.filled = n > 0 && ((is_row(a.c, 1) && is_row(b.c, 3)) || (is_row(a.c, 3) && is_row(b.c, 1)));
+    a.filled = n > 0 && are_opposed_bounds(a.c, b.c);
     for (int k = 0; k < 8; k++)
         a.c[k] += (int64_t)n * b.c[k];
     if (a.c[0] > LIMIT || a.c[2] > LIMIT || a.c[4] > LIMIT || a.c[6] > LIMIT)

@@ -1,13 +1,11 @@
 /* The library from C: cases of document 01, a plot and a frame whose numbers all differ, and opposed rows, whose spread is filled;
- * example_surveys.c has a surveyor's tape and trees, example_sheets.c sheets and the limits. `build.sh` compares what they write with
- * expected.txt. */
+ * example_spectra.c has spectra, example_surveys.c a surveyor's tape and trees, example_sheets.c sheets and the limits. `build.sh`
+ * compares what they write with expected.txt. */
 #include "example.h"
 #include <stdio.h>
 #include <string.h>
 
-static const int32_t CROSSED[8] = {5, 0, 5, 1, 5, 0, 5, -1};
 static const uint32_t K2[8] = {0, 1, 0, 0, 0, 1, 0, 0};
-static const uint32_t K4[8] = {0, 0, 0, 1, 0, 0, 0, 1};
 static const uint32_t BLOCK[8] = {2, 0, 1, 0, 2, 0, 1, 0};
 static const uint32_t SQUARE[8] = {2, 0, 2, 0, 2, 0, 2, 0};
 static const int32_t FRAME[8] = {-4, -1, 5, 11, 7, 4, -2, -7};
@@ -20,7 +18,7 @@ enum { UNMARKED = 77 };
 typedef uint32_t trim(const int32_t *, size_t, const int32_t *, size_t, int32_t *, size_t);
 typedef uint32_t spread(const int32_t *, size_t, const int32_t *, size_t, int32_t *, size_t, uint32_t *);
 
-static void octagon_at(int32_t i, int32_t j, const uint32_t sides[8], int32_t out[8]) {
+void octagon_at(int32_t i, int32_t j, const uint32_t sides[8], int32_t out[8]) {
     const int32_t start[2] = {i, j};
     if (kx_to_octagon(start, 2, sides, 8, out, 8) != KX_ACCEPTED)
         memset(out, 0, 8 * sizeof *out);
@@ -207,6 +205,7 @@ int main(void) {
     uneven();
     opposed_rows();
     splits();
+    spectra();
     tapes();
     trees();
     sheets();

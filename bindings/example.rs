@@ -1,6 +1,7 @@
-//! The library from Rust: the cases of example.c and, in example_surveys.rs and example_sheets.rs, those of example_surveys.c and
-//! example_sheets.c. `build.sh` compares what they write with expected.txt.
+//! The library from Rust: the cases of example.c and, in example_spectra.rs, example_surveys.rs and example_sheets.rs, those of
+//! example_spectra.c, example_surveys.c and example_sheets.c. `build.sh` compares what they write with expected.txt.
 mod example_sheets;
+mod example_spectra;
 mod example_surveys;
 mod koxirmeta;
 
@@ -170,7 +171,7 @@ fn refusals() {
         let why = Refusal::from_number(number);
         let error: &dyn std::error::Error = &why;
         assert_eq!(why.number(), number);
-        assert_eq!(why.name() != "Unknown", (number <= 18 && number != 4) || number == 255);
+        assert_eq!(why.name() != "Unknown", (number <= 20 && number != 4) || number == 255);
         assert!(error.to_string().starts_with(&format!("refused {number}: ")));
     }
 }
@@ -180,6 +181,7 @@ fn main() {
     uneven();
     opposed_rows();
     splits();
+    example_spectra::spectra();
     example_surveys::tapes();
     example_surveys::trees();
     example_sheets::sheets();

@@ -89,6 +89,25 @@ impl Spread {
     }
 }
 
+/// How a [`spectrum`] ended, with the number of trims that were made: as many entries are written.
+#[derive(Clone, Copy, Debug, PartialEq, Eq, Hash)]
+pub enum Spectrum {
+    /// Nothing is left: the last entry is written, and may fill the list.
+    Finished(usize),
+    /// The list is full, and a further entry was due.
+    Spent(usize),
+}
+
+impl Spectrum {
+    /// What a call wrote: the trims and the ending, which is 0 where the list is spent and 1 where the spectrum is finished.
+    fn ended((trims, ending): (usize, u32)) -> Spectrum {
+        match ending {
+            0 => Spectrum::Spent(trims),
+            _ => Spectrum::Finished(trims),
+        }
+    }
+}
+
 macro_rules! refusals {
     ($($(#[$attribute:meta])* $name:ident = $number:literal,)*) => {
         /// Why a call was refused: a number of documents 01 and 02, or the caller's mistake. No call answers 4.
@@ -163,6 +182,10 @@ refusals! {
     TooWide = 17,
     /// One plot number stands for two differing records.
     TwoRecords = 18,
+    /// The frame of a spectrum lacks the cell (0, 0).
+    NoOrigin = 19,
+    /// The frame of a spectrum has no other cell than (0, 0).
+    NoOtherCell = 20,
     /// A slice of the wrong length: the caller's mistake, and no number of the documents.
     WrongLength = 255,
 }
@@ -188,6 +211,8 @@ impl fmt::Display for Refusal {
             Refusal::HalfPoint => write!(f, "the length of the tape is odd, so that it ends in half a point"),
             Refusal::TooWide => write!(f, "the radius of the tree is above {RADIUS_LIMIT}"),
             Refusal::TwoRecords => write!(f, "one plot number stands for two differing records"),
+            Refusal::NoOrigin => write!(f, "the frame of the spectrum lacks the cell (0, 0)"),
+            Refusal::NoOtherCell => write!(f, "the frame of the spectrum has no other cell than (0, 0)"),
             Refusal::WrongLength => write!(f, "a slice has the wrong length"),
             Refusal::Unknown(_) => write!(f, "a number of another version of the library"),
         }
@@ -206,6 +231,7 @@ mod calls {
         pub fn kx_closing(p: *const i32, p_len: usize, f: *const i32, f_len: usize, out: *mut i32, out_len: usize, mark: *mut u32) -> u32;
         pub fn kx_dilate_n(p: *const i32, p_len: usize, f: *const i32, f_len: usize, n: u32, out: *mut i32, out_len: usize, mark: *mut u32) -> u32;
         pub fn kx_erode_n(p: *const i32, p_len: usize, f: *const i32, f_len: usize, n: u32, out: *mut i32, out_len: usize) -> u32;
+        pub fn kx_spectrum(p: *const i32, p_len: usize, f: *const i32, f_len: usize, list: *mut u32, list_len: usize, trims: *mut usize, ending: *mut u32) -> u32;
         pub fn kx_to_octagon(start: *const i32, start_len: usize, sides: *const u32, sides_len: usize, out: *mut i32, out_len: usize) -> u32;
         pub fn kx_to_outline(bounds: *const i32, bounds_len: usize, start: *mut i32, start_len: usize, sides: *mut u32, sides_len: usize) -> u32;
         pub fn kx_vertex_place(bounds: *const i32, bounds_len: usize, k: u32, place: *mut f64, place_len: usize) -> u32;
@@ -316,6 +342,26 @@ trims! {
     ///
     /// Refusals: `TooManyFolds`, each operand's; then `NothingLeft` and `OffMap`, both for the final set.
     erode_n, kx_erode_n, n
+}
+
+/// The pattern spectrum of the plot by the frame, from the first place of the list on: how finely the plot breaks up.
+///
+/// Entry n, from 0 on, is the number of cells that are lost between the plot opened by n folds of the frame and by n + 1; by n folds is
+/// n trims, and then n spreads of what they leave. A filled opening counts the cells of its octagon. Where n + 1 folds leave nothing,
+/// their count is 0, and entry n is the last. A plot moved on the map has the same spectrum.
+///
+/// One trim is made for each entry. The spectrum is finished where the last entry is written, also where that fills the list, and spent
+/// where the list is full and a further entry was due; a list of length 0 is spent at 0. Finished entries sum to the plot's cells, and
+/// those of a spent list to these less the cells still open. Places past the last entry keep their values. No spectrum has more entries
+/// than the map is wide: 2 * [`MAP_LIMIT`] + 1.
+///
+/// Refusals: the plot's `NoCell` and `OffMap`, the frame's, `NoOrigin`, `NoOtherCell`; all of them for a list of length 0 too. A refused
+/// call leaves the list as it was.
+pub fn spectrum(plot: &Bounds, frame: &Bounds, list: &mut [u32]) -> Result<Spectrum, Refusal> {
+    answer(|(trims, ending): &mut (usize, u32)| unsafe {
+        calls::kx_spectrum(plot.as_ptr(), plot.len(), frame.as_ptr(), frame.len(), list.as_mut_ptr(), list.len(), trims, ending)
+    })
+    .map(Spectrum::ended)
 }
 
 /// The octagon of an outline. Refusals: `NotClosed`, `OffMap`.

@@ -171,7 +171,7 @@ def constants():
     """The map, the folds, a sheet's length, a record's without and with a fee row, that of one written, a trailer's, and the greatest
     radius; the refusals, of which none is 4; the constants of the octagon; the tables."""
     print("limits", *(words.replace(",", "") for words in ("16,000", "65,535", "65,536", "24", "26", "26", "16", "255")))
-    print("refusals", *(n for n in range(1, 19) if n != 4))
+    print("refusals", *(n for n in range(1, 21) if n != 4))
     print("origin", *[0] * 8)
     print("built", *range(1, 9))
     print("steps", *(n for step in re.findall(r"(-?\d),(-?\d)", STEPS) for n in step))

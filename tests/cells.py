@@ -1,4 +1,4 @@
-"""Document 01's octagons, outlines and splits as sets of cells, for cases.py, exports.py, examples.py,
+"""Document 01's octagons, outlines and splits as sets of cells, for cases.py, exports.py, examples.py, openings.py, spectra.py,
 clearances.py and the scripts of the tapes.
 
 It shares nothing with the library. A set is a Python set of cells (x, y). Bounds hold the cells that pass the eight inequalities; the

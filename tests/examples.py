@@ -2,7 +2,7 @@
 """Works out what the examples of bindings/ write, on its own: python3 tests/examples.py > bindings/expected.txt
 
 It shares with the examples in C and Rust their operands and the words of a line. What the calls answer is worked out by cells.py,
-clearances.py, enclosing.py, sheets.py and joins.py.
+openings.py, clearances.py, enclosing.py, sheets.py and joins.py.
 """
 from math import inf, nan
 
@@ -12,6 +12,7 @@ from sheets import Refused
 from clearances import around
 from enclosing import enclose
 from joins import join
+from openings import entries, entries_along, put
 
 
 def words(values):
@@ -145,6 +146,44 @@ def splits():
     for sides in [0, 2] * 4, [3, 0, 1, 1, 0, 2, 0, 0]:
         yield parted("split of sides %s" % words(sides), octagon(0, 0, sides))
     yield parted("split of the uneven plot", UNEVEN) + parted("split of crossed bounds", CROSSED)
+
+
+SMALL, CAP = [0, -1, 1, 7, 6, 11, 5, 4], [0, 1, 1, 1, 1, 2, 1, 1]
+LARGE, SLANT = [-9, -14, 2, 32, 37, 43, 13, 4], [3, 4, 1, 7, 6, 5, 0, 2]
+
+
+def ended(what, places, work):
+    """How a call ended that was lent these places: the trims and the ending, or the refusal."""
+    try:
+        trims, finished = put(work(), places)
+    except Refused as refusal:
+        return "%s, list of %d: refused %d" % (what, len(places), refusal.args[0])
+    return "%s, list of %d: trims %d, %s" % (what, len(places), trims, "finished" if finished else "spent")
+
+
+def measured(what, plot, frame, length=6):
+    """The call on the first of six places, and all of them."""
+    places = list(range(901, 907))
+    lent = places[:length]
+    line = ended(what, lent, lambda: entries(plot, frame))
+    return "%s; places %s\n" % (line, words(lent + places[length:]))
+
+
+def spectra():
+    k4, k13 = (octagon(0, 0, PIECES[k - 1]) for k in (4, 13))
+    for length in range(6):
+        yield measured("small plot by the cap", SMALL, CAP, length)
+    for length in 3, 6:
+        yield measured("large plot by the slanted frame", LARGE, SLANT, length)
+    for length in 1, 6:
+        yield measured("K13 by K4", k13, k4, length)
+    yield measured("small plot by the large one", SMALL, LARGE) + measured("small plot by (1,0)", SMALL, tightest({(1, 0)}))
+    yield measured("small plot by (0,0)", SMALL, ORIGIN) + measured("small plot by (0,0)", SMALL, ORIGIN, 0)
+    yield measured("small plot by crossed bounds", SMALL, CROSSED) + measured("crossed bounds by (0,0)", CROSSED, ORIGIN)
+    rows = entries_along(32001)
+    for length in 32000, 32001, 32002:
+        places = [907] * length
+        yield ended("two rows as wide as the map by two cells", places, lambda: rows) + "; last place %d\n" % places[-1]
 
 
 SURVEY = [12.3, -4.875, 17.62, -4.4, 21.125, -1.07, 22.09, 3.7, 19.84, 8.33, 14.6, 10.95, 9.4, 9.2, 6.375, 5.05, 7.9, -1.375]
@@ -310,5 +349,5 @@ def limits():
 
 
 if __name__ == "__main__":
-    for part in octagons, uneven, opposed_rows, splits, tapes, trees, on_sheets, on_base_sheets, on_joins, limits:
+    for part in octagons, uneven, opposed_rows, splits, spectra, tapes, trees, on_sheets, on_base_sheets, on_joins, limits:
         print("".join(part()), end="")

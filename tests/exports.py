@@ -2,7 +2,8 @@
 """Works out what crates/export_cases writes, on its own: python3 tests/exports.py > crates/export_cases/stdout
 
 It shares with the program its operands and the form of a line: the name of a call, the number that it answers, and the memory that it
-was lent, as it is afterwards. What the calls answer is worked out by cells.py, clearances.py, enclosing.py, sheets.py and joins.py.
+was lent, as it is afterwards. What the calls answer is worked out by cells.py, openings.py, clearances.py, enclosing.py, sheets.py and
+joins.py.
 """
 import struct
 from math import inf, isnan, nan
@@ -13,6 +14,7 @@ from sheets import Refused
 from clearances import MAX, MIN, around
 from enclosing import enclose
 from joins import join
+from openings import entries, put
 
 PLOT = [5, 4, 0, 10, 12, 19, 11, 9]
 OCTAGONS = [PLOT, [-4, -1, 5, 11, 7, 4, -2, -7], [5, 4, 0, 10, 40, 27, 11, 20], [6, 2, 7, 5, 8, -2, 9, -5]]
@@ -112,6 +114,41 @@ def octagons():
     for name in MARKED:
         yield operation(name, PLOT, OCTAGONS[1], 1, places=7)
     yield count(PLOT[:7])
+
+
+# ---- spectra
+
+BROAD, SLANT, LOOSE = [35, 47, 18, 11, -7, -17, -3, 28], [3, 2, 0, 5, 6, 7, 1, 4], [1, 8, 2, 6, 3, 7, 0, 9]
+SPOILT = [(3, OCTAGONS[4]), (4, OCTAGONS[3])]
+SPOILT += [(0, frame) for frame in (OCTAGONS[3], OCTAGONS[4], OCTAGONS[1], OCTAGONS[6], [0] * 8)]
+
+
+def spectrum(plot, frame, room=6):
+    """The call on the first places of a list, and all of them."""
+
+    def work():
+        trims, finished = put(entries(plot, frame), lent)
+        return lent, [trims], [int(finished)]
+
+    places, trims, ending = from_number(301, 6), [101], [201]
+    lent = places[:room]
+    number = called(len(plot) == 8 and len(frame) == 8, work, lent, trims, ending)
+    places[:room] = lent
+    return line("spectrum", number, places, trims, ending)
+
+
+def on_spectra():
+    for room in range(7):
+        yield spectrum(BROAD, SLANT, room)
+    for room in 6, 5, 4:
+        yield spectrum(OCTAGONS[2], LOOSE, room)
+    for room in 6, 2, 1:
+        yield spectrum(OCTAGONS[13], tightest({(0, 0), (1, -1)}), room)
+    for k, frame in SPOILT:
+        yield spectrum(OCTAGONS[k], frame) + spectrum(OCTAGONS[k], frame, 0)
+    for count in 7, 9, 0:
+        yield spectrum((BROAD + [9])[:count], SLANT) + spectrum(BROAD, (SLANT + [9])[:count])
+    yield spectrum(BROAD[:7], [0] * 8) + spectrum(OCTAGONS[3], SLANT[:7])
 
 
 # ---- tapes
@@ -283,4 +320,5 @@ def on_joins():
 
 
 if __name__ == "__main__":
-    print("".join(octagons()) + "".join(on_tapes()) + "".join(on_trees()) + "".join(on_sheets()) + "".join(on_joins()), end="")
+    for part in octagons, on_spectra, on_tapes, on_trees, on_sheets, on_joins:
+        print("".join(part()), end="")

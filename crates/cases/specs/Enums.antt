@@ -20,6 +20,8 @@ use Rattle.outline.specs.Places.{place-outcome}
 use Rattle.decomposition.specs.declared.Split.{Split}
 use Rattle.decomposition.specs.declared.Decomposed.the-variants as decomposed
 use Rattle.decomposition.specs.Splitting.{outcome as split-outcome}
+use Rattle.spectrum.specs.declared.Spectrum.the-variants as spectrum
+use Rattle.spectrum.specs.Answers.{outcome as ending-outcome}
 use Rattle.sheet.specs.declared.Record.{Record}
 use Rattle.sheet.specs.declared.Checked.the-variants as checked
 use Rattle.sheet.specs.declared.Fetched.the-variants as fetched
@@ -34,13 +36,14 @@ pub record RefusalsAsGiven (k : ℕ) : Type 0 where
   pub of-outline : outline-outcome (outlined.Refused k) ≡ refused k
   pub of-place : place-outcome (located.Refused k) ≡ refused k
   pub of-split : split-outcome (decomposed.Refused k) ≡ refused k
+  pub of-spectrum : ending-outcome (spectrum.Refused k) ≡ refused k
   pub of-check : count-outcome (checked.Refused k) ≡ refused k
   pub of-fetch : record-outcome (fetched.Refused k) ≡ refused k
   pub of-writing : length-outcome (written.Refused k) ≡ refused k
 
 pub refusals-as-given : (k : ℕ) → RefusalsAsGiven k
 refusals-as-given k =
-    record { of-octagon = refl; of-spread = refl; of-count = refl; of-outline = refl; of-place = refl; of-split = refl; of-check = refl; of-fetch = refl; of-writing = refl }
+    record { of-octagon = refl; of-spread = refl; of-count = refl; of-outline = refl; of-place = refl; of-split = refl; of-spectrum = refl; of-check = refl; of-fetch = refl; of-writing = refl }
 
 -- and what is accepted its value
 pub record ValuesAsGiven (n : ℕ) (a : Octagon) (o : Outline) (p : Place) (s : Split) (r : Record) : Type 0 where
@@ -51,13 +54,15 @@ pub record ValuesAsGiven (n : ℕ) (a : Octagon) (o : Outline) (p : Place) (s : 
   pub of-outline : outline-outcome (outlined.Outline o) ≡ accepted o
   pub of-place : place-outcome (located.Place p) ≡ accepted p
   pub of-split : split-outcome (decomposed.Split s) ≡ accepted s
+  pub of-finished : ending-outcome (spectrum.Finished n) ≡ accepted (record { trims = n; is-finished = true })
+  pub of-spent : ending-outcome (spectrum.Spent n) ≡ accepted (record { trims = n; is-finished = false })
   pub of-check : count-outcome (checked.Count n) ≡ accepted n
   pub of-fetch : record-outcome (fetched.Record r) ≡ accepted r
   pub of-writing : length-outcome (written.Length n) ≡ accepted n
 
 pub values-as-given : (n : ℕ) (a : Octagon) (o : Outline) (p : Place) (s : Split) (r : Record) → ValuesAsGiven n a o p s r
 values-as-given n a o p s r =
-    record { of-octagon = refl; of-exact = refl; of-filled = refl; of-count = refl; of-outline = refl; of-place = refl; of-split = refl; of-check = refl; of-fetch = refl; of-writing = refl }
+    record { of-octagon = refl; of-exact = refl; of-filled = refl; of-count = refl; of-outline = refl; of-place = refl; of-split = refl; of-finished = refl; of-spent = refl; of-check = refl; of-fetch = refl; of-writing = refl }
 
 -- the mark of each case of a spread, what is left without it, and an answer that is marked
 pub record MarksAsGiven (k : ℕ) (a : Octagon) : Type 0 where

@@ -23,6 +23,7 @@ use Rattle.sheet.specs.Answers.{bad-length, bad-trailer, bad-distance, bad-numb
 use Rattle.tape.specs.Snapping.{not-finite}
 use Rattle.tape.specs.Enclosing.{no-point, half-point}
 use Rattle.clearance.specs.Clearing.{radius-limit, too-wide}
+use Rattle.spectrum.specs.Spectra.{no-origin, no-other-cell}
 use Rattle.cases.specs.Shorthand.{Case, is}
 
 -- ---- what the documents print
@@ -35,9 +36,9 @@ printed-limits = 16000 ∷ 65535 ∷ 65536 ∷ 24 ∷ 26 ∷ 26 ∷ 16 ∷ 255 �
 
 -- the refusals: no cell, off the map, not closed, nothing left, too many folds, corner above 7, length, trailer, distance,
 -- plot number, no room, no record; and those of document 02: not finite, no point, half a point, radius above 255, one number for two
--- records. Document 02's U4 takes document 01's 4 away
+-- records, no cell (0, 0), no other cell. Document 02's U4 takes document 01's 4 away
 abbrev pub printed-refusals : List ℕ
-printed-refusals = 1 ∷ 2 ∷ 3 ∷ 5 ∷ 6 ∷ 7 ∷ 8 ∷ 9 ∷ 10 ∷ 11 ∷ 12 ∷ 13 ∷ 14 ∷ 15 ∷ 16 ∷ 17 ∷ 18 ∷ []
+printed-refusals = 1 ∷ 2 ∷ 3 ∷ 5 ∷ 6 ∷ 7 ∷ 8 ∷ 9 ∷ 10 ∷ 11 ∷ 12 ∷ 13 ∷ 14 ∷ 15 ∷ 16 ∷ 17 ∷ 18 ∷ 19 ∷ 20 ∷ []
 
 -- "the letters GRND"
 abbrev pub printed-letters : List ℕ
@@ -103,7 +104,7 @@ thirteen = 0 ∷ 1 ∷ 2 ∷ 3 ∷ 4 ∷ 5 ∷ 6 ∷ 7 ∷ 8 ∷ 9 ∷ 10 ∷ 11
 pub fixed-numbers : List (Case Fixed)
 fixed-numbers =
     is (numbers (limit ∷ fold-limit ∷ sheet-limit ∷ base-length ∷ fee-length ∷ record-length ∷ trailer-length ∷ radius-limit ∷ [])) (numbers printed-limits) ∷
-    is (numbers (no-cell ∷ off-map ∷ not-closed ∷ nothing-left ∷ too-many-folds ∷ no-vertex ∷ bad-length ∷ bad-trailer ∷ bad-distance ∷ bad-number ∷ no-room ∷ no-record ∷ not-finite ∷ no-point ∷ half-point ∷ too-wide ∷ two-records ∷ []))
+    is (numbers (no-cell ∷ off-map ∷ not-closed ∷ nothing-left ∷ too-many-folds ∷ no-vertex ∷ bad-length ∷ bad-trailer ∷ bad-distance ∷ bad-number ∷ no-room ∷ no-record ∷ not-finite ∷ no-point ∷ half-point ∷ too-wide ∷ two-records ∷ no-origin ∷ no-other-cell ∷ []))
     (numbers printed-refusals) ∷
     is (numbers (bytes 4 letters)) (numbers printed-letters) ∷
     is (numbers (map (λ w. 8 * w) base-layout)) (numbers (printed-record-fields 0)) ∷

@@ -28,7 +28,7 @@ fn limits() -> [u32; 8]
     ]
 }
 
-fn refusals() -> [u32; 17]
+fn refusals() -> [u32; 19]
     ensures { λ r. ⌜ r ≡ numbers.printed-refusals ⌝ }
 {
     [
@@ -49,6 +49,8 @@ fn refusals() -> [u32; 17]
         tape::HALF_POINT,
         clearance::TOO_WIDE,
         sheet::TWO_RECORDS,
+        spectrum::NO_ORIGIN,
+        spectrum::NO_OTHER_CELL,
     ]
 }
 

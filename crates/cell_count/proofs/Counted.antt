@@ -6,7 +6,7 @@ use Prim.Native.Nat.{ℕ, _+_, _^_, _<_, _≤_}
 use native.Mathlib.Omega.{arith}
 use lib.IntN.{ℤ}
 use Rattle.octagon.specs.declared.Octagon.{Octagon}
-use Rattle.octagon.specs.Outcome.{Outcome, accepted, refused, then}
+use Rattle.octagon.specs.Outcome.{accepted, refused}
 use Rattle.octagon.specs.Cells.{_⊆_, _≐_, Some, In, OnMap, limit}
 use Rattle.octagon.specs.NormalForm.{normalised}
 use Rattle.octagon.proofs.Outcomes.{map-accepted, map-refused}
@@ -55,6 +55,11 @@ area-some c a e =
 pub count-accepted : (c : Octagon) (n : ℕ) → cell-count c ≡ accepted n → (a : Octagon) × (normalised c ≡ accepted a) × (area a ≡ n)
 unfolding cell-count
 count-accepted c n = map-accepted (normalised c) area n
+
+-- and so of a normal form it is its own
+pub own-count : (a : Octagon) → normalised a ≡ accepted a → cell-count a ≡ accepted (area a)
+unfolding cell-count
+own-count a e = rw e refl
 
 -- refused as `normalise` refuses, and only so
 pub count-refused : (c : Octagon) (k : ℕ) → (cell-count c ≡ refused k) ↔ (normalised c ≡ refused k)

@@ -75,8 +75,8 @@ fn cuts(a: Octagon) -> u64
     cut(c0, c1, c2) + cut(c2, c3, c4) + (cut(c4, c5, c6) + cut(c6, c7, c0))
 }
 
-// The number of cells within normalised bounds.
-fn area(a: Octagon) -> u32
+// The number of cells within normalised bounds. It asks for a normal form, and is for this crate and `spectrum`: users have `count_cells`.
+pub fn area(a: Octagon) -> u32
     requires { ⌜ normalised a ≡ accepted a ⌝ }
     ensures { λ r. ⌜ r ≡ spec.area a ⌝ }
 {

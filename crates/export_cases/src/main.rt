@@ -8,6 +8,7 @@ mod plots;
 mod print;
 mod samples;
 mod sheets;
+mod spectra;
 mod tapes;
 
 // Each octagon, in each call that takes one.
@@ -25,6 +26,7 @@ fn each_octagon() {
 fn main() {
     each_octagon();
     octagons::misfits();
+    spectra::spectra();
     tapes::tapes();
     clearances::clearances();
     plots::plots();

@@ -1,6 +1,7 @@
 -- A natural multiple of an integer, by its parts. Assumes nothing.
-use Prim.Native.Nat.{ℕ, zero, suc, _+_, _*_, _≤_}
-use native.Mathlib.Nat.{zero-mul, mul-zero, suc-mul, add-mul, mul-le-mul-left, mul-le-mul}
+use mathlib.Core.Path.{_≡_, refl}
+use Prim.Native.Nat.{ℕ, zero, suc, _+_, _*_, _<_, _≤_}
+use native.Mathlib.Nat.{zero-mul, mul-zero, suc-mul, mul-suc, add-mul, mul-le-mul-left, mul-le-mul}
 use native.Mathlib.Omega.{arith}
 use lib.IntN.{ℤ, pos, negsuc, _*ℤ_}
 use Rattle.integers.proofs.Parts.{up, dn, neg-up, neg-dn}
@@ -50,3 +51,10 @@ times-between m n k x z h j =
     (λ f.
     let u : n * dn z ≤ n * up z = mul-le-mul-left n (omega arith) in
     omega (arith, times-parts m z, times-parts (m + n) z, add-mul m n (up z), add-mul m n (dn z)))
+
+-- a number whose multiple by n is nearer to 0 than n
+pub times-small : (n k : ℕ) (z : ℤ) → k < n → # (pos n *ℤ z) ≼ lit k → neg (# (pos n *ℤ z)) ≼ lit k → z ≡ pos 0
+unfolding up dn
+times-small n k (pos zero) l h j = refl
+times-small n k (pos (suc m)) l h j = absurd (omega (arith, times-parts n (pos (suc m)), mul-suc n m))
+times-small n k (negsuc m) l h j = absurd (omega (arith, times-parts n (negsuc m), mul-suc n m))

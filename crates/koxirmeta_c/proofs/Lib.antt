@@ -6,3 +6,4 @@ pub mod SheetExamples
 pub mod JoinExamples
 pub mod TapeExamples
 pub mod ClearanceExamples
+pub mod SpectrumExamples

@@ -5,3 +5,4 @@ pub mod Splits
 pub mod Tapes
 pub mod Clearances
 pub mod Sheets
+pub mod Spectra

@@ -20,6 +20,7 @@ pub mod Erosions
 pub mod Openings
 pub mod Closings
 pub mod Forms
+pub mod FoldedForms
 pub mod Decided
 pub mod FoldedErosions
 pub mod FoldedDilations

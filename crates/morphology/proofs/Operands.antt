@@ -39,7 +39,7 @@ pub record Accepted (p f a b : Octagon) : Type 0 where
 -- ---- the checks
 
 -- an answer that h makes of a normalised octagon with the cells of A
-judged : {R : Type 0} {A : Cells} {k : ℕ} {C : Answers R} (d : Octagon) (h : Outcome Octagon → Outcome R) → In d ≐ A →
+pub judged : {R : Type 0} {A : Cells} {k : ℕ} {C : Answers R} (d : Octagon) (h : Outcome Octagon → Outcome R) → In d ≐ A →
     h (refused no-cell) ≡ refused k → h (refused off-map) ≡ refused off-map → ((a : Octagon) → normalised d ≡ accepted a → C (h (accepted a))) →
     Check (Empty A) k (Check (LeavesMap A) off-map C) (h (normalised d))
 judged {R} {A} {k} {C} d h e p q f = go (normalising d) refl

@@ -1,7 +1,12 @@
-// n-fold dilation and erosion, in constant time whatever n is (document 01's n-fold spread and trim).
+// n-fold dilation, erosion and opening, in constant time whatever n is: document 01's n-fold spread and trim, and for `spectrum` the two
+// after each other.
 ghost use mathlib.Core.Path.{_≡_};
+ghost use Prim.Native.Nat.{_≤_};
 ghost use Rattle.octagon.specs.Answers.{outcome};
-ghost use Rattle.morphology.specs.Marks.{«spread-outcome»};
+ghost use Rattle.octagon.specs.Outcome.{accepted};
+ghost use Rattle.octagon.specs.NormalForm.{normalised};
+ghost use Rattle.morphology.specs.Marks.{«spread-outcome», unmarked};
+ghost use Rattle.morphology.specs.Premises.{«opened-n»};
 ghost use Rattle.morphology.specs.Folds as spec;
 use crate::Spread;
 use crate::bounds::differences;
@@ -54,4 +59,18 @@ pub fn erode_n(plot: Octagon, element: Octagon, n: u32) -> Answer
         return second;
     };
     fit(differences(a, multiples(n, b)))
+}
+
+// A plot opened by n folds of an element, both normalised: n trims, and then n spreads of what they leave. It lies in the plot, so the
+// spreads are on the map. It asks for normal forms, and is for `spectrum`, not for users.
+pub fn open_forms_n(a: Octagon, b: Octagon, n: u32) -> Answer
+    requires { ⌜ (normalised a ≡ accepted a) × (normalised b ≡ accepted b) × (n ≤ spec.fold-limit) ⌝ }
+    ensures { λ r. ⌜ outcome r ≡ unmarked («opened-n» a b n) ⌝ }
+{
+    let folded = multiples(n, b);
+    let eroded = fit(differences(a, folded));
+    let Answer::Octagon(left) = eroded else {
+        return eroded;
+    };
+    Answer::Octagon(sums(left, folded))
 }

@@ -1,4 +1,4 @@
--- `each_octagon` is safe and ends: there are thirteen octagons. Assumes nothing.
+-- `each_octagon` is safe and ends: there are fifteen octagons. Assumes nothing.
 use Prim.Native.Nat.{_-_}
 use borrow.Author.Needs.{needs}
 use Rattle.export_cases.proofs.each_octagon.Statement.{statement}
