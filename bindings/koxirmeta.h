@@ -133,15 +133,15 @@ uint32_t kx_closing(const int32_t *plot, size_t plot_len, const int32_t *element
 uint32_t kx_dilate_n(const int32_t *plot, size_t plot_len, const int32_t *element, size_t element_len, uint32_t n, int32_t *out, size_t out_len, uint32_t *mark);
 uint32_t kx_erode_n(const int32_t *plot, size_t plot_len, const int32_t *element, size_t element_len, uint32_t n, int32_t *out, size_t out_len);
 
-/* The pattern spectrum of the plot by the frame, its element: how finely it breaks up. The list has any length, 0 too. Entry n, from 0 on, is
- * the number of cells that are lost between the plot opened by n folds of the frame and by n + 1; by n folds is n trims, and then n
- * spreads of what they leave. A filled opening counts the cells of its octagon. Where n + 1 folds leave nothing, their count is 0, and
- * entry n is the last. One trim is made for each entry: *trims is the number of both, and *ending says KX_FINISHED where the last entry
- * is written, also where it fills the list, and KX_SPENT where the list is full and a further entry was due. Finished entries sum to the
- * plot's cells, and those of a spent list to these less the cells still open. Places past the last entry keep their values. No spectrum
- * has more entries than the map is wide, 2 * KX_MAP_LIMIT + 1, and a plot moved on the map has the same one. Refusals: each operand's 1
- * and 2, the plot's first; then 19 when the frame lacks the cell (0, 0), then 20 when it has no other cell; all of these for a list of
- * length 0 too. */
+/* The pattern spectrum of the plot by an element, the frame: how finely the plot breaks up. The list has any length, 0 too. Entry
+ * n, from 0 on, is the number of cells that are lost between the plot opened by n folds of the frame and by n + 1; by n folds is n
+ * trims, and then n spreads of what they leave. A filled opening counts the cells of its octagon. Where n + 1 folds leave nothing,
+ * their count is 0, and entry n is the last. One trim is made for each entry: *trims is the number of both, and *ending says
+ * KX_FINISHED where the last entry is written, also where it fills the list, and KX_SPENT where the list is full and a further
+ * entry was due. Finished entries sum to the plot's cells, and those of a spent list to these less the cells still open. Places
+ * past the last entry keep their values. No spectrum has more entries than the map is wide, 2 * KX_MAP_LIMIT + 1, and a plot moved
+ * on the map has the same one. Refusals: each operand's 1 and 2, the plot's first; then 19 when the frame lacks the cell (0, 0),
+ * then 20 when it has no other cell; all of these for a list of length 0 too. */
 uint32_t kx_spectrum(const int32_t *plot, size_t plot_len, const int32_t *frame, size_t frame_len, uint32_t *list, size_t list_len, size_t *trims, uint32_t *ending);
 
 /* The octagon of the outline start[KX_START], sides[KX_SIDES], to out[KX_BOUNDS]. Refusals: 3, 2. */
