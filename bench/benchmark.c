@@ -1,5 +1,5 @@
-/* Times the exported calls beside plain C, in one run, on the same inputs: those on octagons, tapes and trees here, those on sheets in
- * benchmark_sheets.c, and the spectrum in benchmark_spectra.c. */
+/* Times the exported calls beside plain C, in one run, on the same inputs: those on octagons, tapes and trees here, the n-fold ones in
+ * benchmark_folds.c, the spectrum in benchmark_spectra.c, and those on sheets in benchmark_sheets.c. */
 #include "benchmark.h"
 #include <stdlib.h>
 #include <string.h>
@@ -18,12 +18,16 @@ static double tape[2 * POINTS];
 static tree trees[INPUTS];
 volatile uint32_t sink;
 
+int32_t from_seed(uint64_t *seed, int32_t low, int32_t high) {
+    *seed ^= *seed << 13;
+    *seed ^= *seed >> 7;
+    *seed ^= *seed << 17;
+    return low + (int32_t)((*seed >> 32) % (uint64_t)(high - low + 1));
+}
+
 int32_t from(int32_t low, int32_t high) {
     static uint64_t seed = 0x9e3779b97f4a7c15u;
-    seed ^= seed << 13;
-    seed ^= seed >> 7;
-    seed ^= seed << 17;
-    return low + (int32_t)((seed >> 32) % (uint64_t)(high - low + 1));
+    return from_seed(&seed, low, high);
 }
 
 double now(void) {
@@ -172,6 +176,7 @@ int main(void) {
     COMPARE("erode", TURNS, time_trim, kx_erode, plain_erode);
     COMPARE("opening", TURNS, time_spread, kx_opening, plain_opening);
     COMPARE("closing", TURNS, time_spread, kx_closing, plain_closing);
+    benchmark_folds();
     COMPARE("split", TURNS, time_split, kx_decompose, plain_decompose);
     COMPARE("split, many", TURNS * INPUTS / MANY, time_split_many, kx_decompose, plain_decompose);
     COMPARE("enclose", TURNS, time_enclose, kx_enclose, plain_enclose);

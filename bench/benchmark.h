@@ -9,15 +9,17 @@
 /* What a call gave is added to this, so that no call is left out. */
 extern volatile uint32_t sink;
 
-/* A number from `low` to `high`, from a fixed seed. */
+/* A number from `low` to `high`, from a fixed seed; and one from a seed that is lent, which it alters. */
 int32_t from(int32_t low, int32_t high);
+int32_t from_seed(uint64_t *seed, int32_t low, int32_t high);
 
 /* The time in nanoseconds. */
 double now(void);
 
-/* The calls on sheets (benchmark_sheets.c), and the spectrum (benchmark_spectra.c). */
-void benchmark_sheets(void);
+/* The n-fold calls (benchmark_folds.c), the spectrum (benchmark_spectra.c), and the calls on sheets (benchmark_sheets.c). */
+void benchmark_folds(void);
 void benchmark_spectra(void);
+void benchmark_sheets(void);
 
 static inline void say(const char *name, double proved, double plain) { printf("%-15s %9.2f %12.2f %8.2f\n", name, proved, plain, proved / plain); }
 

@@ -2,18 +2,6 @@
 #include "plain_octagons.h"
 #include <string.h>
 
-static int is_rising(const int32_t c[8]) { return c[1] + c[5] <= 0 && 1 <= c[3] + c[7]; }
-
-static int is_falling(const int32_t c[8]) { return c[3] + c[7] <= 0 && 1 <= c[1] + c[5]; }
-
-/* The normal forms of both operands, or the number of the refusal: all of the first's come before the second's. */
-static uint32_t normalise_both(const int32_t p[8], const int32_t f[8], int32_t a[8], int32_t b[8]) {
-    uint32_t refused = normalise(p, a);
-    return refused ? refused : normalise(f, b);
-}
-
-static int are_opposed(const int32_t a[8], const int32_t b[8]) { return (is_rising(a) && is_falling(b)) || (is_falling(a) && is_rising(b)); }
-
 /* The dilation and the erosion of normal forms. */
 static uint32_t dilate_forms(const int32_t a[8], const int32_t b[8], int32_t out[8], uint32_t *mark) {
     int32_t sums[8];

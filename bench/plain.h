@@ -4,8 +4,8 @@
 #include <stddef.h>
 #include <stdint.h>
 
-enum { LIMIT = 16000, RADIUS_LIMIT = 255, SHEET_LIMIT = 65536, RECORD = 26, BASE_RECORD = 24, TRAILER = 16 };
-enum { NO_CELL = 1, OFF_MAP, NOT_CLOSED, NOTHING_LEFT = 5, BAD_LENGTH = 8, BAD_TRAILER, BAD_DISTANCE, BAD_NUMBER, NO_ROOM, NOT_FINITE = 14, NO_POINT, HALF_POINT, TOO_WIDE, TWO_RECORDS, NO_ORIGIN, NO_OTHER_CELL, WRONG_LENGTH = 255 };
+enum { LIMIT = 16000, FOLD_LIMIT = 65535, RADIUS_LIMIT = 255, SHEET_LIMIT = 65536, RECORD = 26, BASE_RECORD = 24, TRAILER = 16 };
+enum { NO_CELL = 1, OFF_MAP, NOT_CLOSED, NOTHING_LEFT = 5, TOO_MANY_FOLDS, BAD_LENGTH = 8, BAD_TRAILER, BAD_DISTANCE, BAD_NUMBER, NO_ROOM, NOT_FINITE = 14, NO_POINT, HALF_POINT, TOO_WIDE, TWO_RECORDS, NO_ORIGIN, NO_OTHER_CELL, WRONG_LENGTH = 255 };
 enum { EXACT, FILLED };
 enum { SPENT, FINISHED };
 
@@ -15,6 +15,8 @@ uint32_t plain_dilate(const int32_t *plot, size_t plot_len, const int32_t *eleme
 uint32_t plain_erode(const int32_t *plot, size_t plot_len, const int32_t *element, size_t element_len, int32_t *out, size_t out_len);
 uint32_t plain_opening(const int32_t *plot, size_t plot_len, const int32_t *element, size_t element_len, int32_t *out, size_t out_len, uint32_t *mark);
 uint32_t plain_closing(const int32_t *plot, size_t plot_len, const int32_t *element, size_t element_len, int32_t *out, size_t out_len, uint32_t *mark);
+uint32_t plain_dilate_n(const int32_t *plot, size_t plot_len, const int32_t *element, size_t element_len, uint32_t n, int32_t *out, size_t out_len, uint32_t *mark);
+uint32_t plain_erode_n(const int32_t *plot, size_t plot_len, const int32_t *element, size_t element_len, uint32_t n, int32_t *out, size_t out_len);
 uint32_t plain_decompose(const int32_t *bounds, size_t bounds_len, int32_t *start, size_t start_len, uint32_t *counts, size_t counts_len);
 uint32_t plain_sheet_check(const uint8_t *sheet, size_t room, size_t len, uint32_t *count);
 uint32_t plain_sheet_insert(uint8_t *sheet, size_t room, size_t len, uint32_t number, const int32_t *start, size_t start_len, const uint32_t *sides, size_t sides_len,

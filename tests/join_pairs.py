@@ -6,6 +6,7 @@ import random
 
 import sheets
 from joins import ROOM, answer, join, random_pair, rooms
+from sheet_edges import LEAVING, REACHING, holding
 from sheets import LIMIT, OLD, PLOTS, SAMPLE, numbered, old_numbered, old_sheet, plot, sheet, trailer, wide
 
 # which are joined: the first and the second, the second and the first, the first and itself
@@ -150,6 +151,15 @@ def lengths():
     yield "lengths", (0, first + b"past.", m + 5), (0, second + b"beyond", n + 6), calls
 
 
+# ---- sheets with a plot at the edge of the map
+
+
+def edges():
+    """Such a plot alone in its sheet, or after another; the other sheet is of the other record length, and its plot lies near the middle."""
+    for k, (size, far, before) in enumerate(itertools.product((24, 26), REACHING + LEAVING, ((), (43,)))):
+        yield pair("edge%d" % k, holding(size, far, *before), made(50 - size, b"", 50))
+
+
 # ---- the fullest sheets
 
 
@@ -172,7 +182,7 @@ def fullest():
 
 
 def pairs():
-    for part in (apart, common, empty, differing, refused, lengths):
+    for part in (apart, common, empty, differing, refused, lengths, edges):
         yield from part()
     rng = random.Random(6)
     for k in range(60):

@@ -5,6 +5,7 @@ by the words of tests/sheet_words.py, and what the calls answer and leave is the
 """
 import struct
 
+from sheet_edges import LEAVING, REACHING, holding
 from sheet_words import PAST, Words
 from sheets import BLOCK, DIAMOND, OLD, fee_row, numbered, old_numbered, old_sheet, plot, sheet, start, trailer, wide
 
@@ -117,6 +118,20 @@ class Cases(Words):
         for outline in (wide(15440, 0, 301), wide(0, 1, 301), wide(15440, 0), wide(0, 14703), wide(-15485, 0), wide(0, -16001)):
             self.tell_insert(WIDE, 15, 0, outline)
 
+    # ---- sheets with a plot at the edge of the map
+
+    def edges(self, size):
+        for far in REACHING + LEAVING:
+            for before in ((), (43,)):
+                data = holding(size, far, *before)
+                buffer = past(110, 0, data)
+                self.say_checked(buffer, len(data))
+                self.say_both(buffer, len(data), len(before))
+                self.show(buffer, len(data))
+                grown = self.tell_added(buffer, len(data), 50, plot(50))
+                self.say_digest(buffer)
+                self.show(buffer, grown)
+
     # ---- fee rows, headings and limits
 
     def fees(self):
@@ -210,6 +225,8 @@ class Cases(Words):
                 part(length)
         self.twice()
         self.outlines()
+        for size in (24, 26):
+            self.edges(size)
         self.fees()
         for numbers in ((7, 256, 65537), (65537, 256, 7), (256, 65537, 7)):
             self.ordered(*numbers)

@@ -4,23 +4,18 @@ use mathlib.Core.Path.{_≡_, refl, sym, _∙_, ap}
 use mathlib.Core.Logic.{_↔_}
 use Prim.Native.Nat.{ℕ, _+_, _^_, _<_, _≤_}
 use native.Mathlib.Omega.{arith}
-use lib.IntN.{ℤ}
 use Rattle.octagon.specs.declared.Octagon.{Octagon}
 use Rattle.octagon.specs.Outcome.{accepted, refused}
 use Rattle.octagon.specs.Cells.{_⊆_, _≐_, Some, In, OnMap, limit}
 use Rattle.octagon.specs.NormalForm.{normalised}
 use Rattle.octagon.proofs.Outcomes.{map-accepted, map-refused}
 use Rattle.octagon.proofs.NormalForms.{accepted-means, accepted-normal, accepted-near, accepted-when, normalised-again}
-use Rattle.cell_count.specs.Count.{without, count, inside, Square, Counted}
+use Rattle.cell_count.specs.Count.{without, count, inside, Counted}
 use Rattle.cell_count.specs.Area.{area, cell-count}
 use Rattle.cell_count.proofs.Counts.{count-same, count-most, count-lost, count-some}
 use Rattle.cell_count.proofs.Inside.{inside-is, inside-most, inside-same}
 use Rattle.cell_count.proofs.Formula.{cells-and-cuts}
 use Rattle.cell_count.proofs.Lengths.{near-fits, lengths, rectangle-most}
-
--- the map is the square of radius `limit`
-pub map-square : {x y : ℤ} → OnMap x y → Square limit x y
-map-square o = record { west = o .west; east = o .east; south = o .south; north = o .north }
 
 -- ---- the formula
 
@@ -42,7 +37,7 @@ pub area-some : (c a : Octagon) → normalised c ≡ accepted a → 1 ≤ area a
 area-some c a e =
     let m = accepted-means c a e in
     let v = m .is-normalised .some in
-    let o = map-square (m .on-the-map (v .x) (v .y) (v .cell)) in
+    let o = m .on-the-map (v .x) (v .y) (v .cell) in
     omega (
       arith,
       own-area c a e limit (omega arith),

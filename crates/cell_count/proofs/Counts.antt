@@ -8,7 +8,8 @@ use lib.IntN.{ℤ, pos}
 use Rattle.integers.proofs.Parts.{up, dn, diff-parts, neg-up, neg-dn, le-parts, parts-eq}
 use Rattle.integers.proofs.Linear.{#, _⊕_, neg, lit, _≼_, _≈_}
 use Rattle.integers.proofs.Tests.{cases}
-use Rattle.cell_count.specs.Count.{Test, either, both, without, sum, one, at, row, count, Square}
+use Rattle.cell_count.specs.Count.{Test, either, both, without, sum, one, at, row, count}
+use Rattle.octagon.specs.Cells.{Square}
 use Rattle.cell_count.proofs.Sums.{sum-ext, sum-le, sum-add, sum-zero, sum-term, sum-window}
 
 -- the integer at a place, as a linear fact

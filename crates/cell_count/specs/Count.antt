@@ -4,7 +4,7 @@ use mathlib.Core.Path.{_≡_}
 use mathlib.Core.Bool.{Bool, true, false, not, _&&_, _||_}
 use Prim.Native.Nat.{ℕ, zero, suc, _+_, _*_, _^_, _<_, _≤_}
 use lib.IntN.{ℤ, pos, negℤ, _+ℤ_, _-ℤ_}
-use lib.Signed.{leZ, _≤ℤ_}
+use lib.Signed.{leZ}
 use Rattle.octagon.specs.declared.Octagon.{Octagon}
 use Rattle.octagon.specs.Cells.{limit}
 
@@ -53,13 +53,6 @@ row r p = sum (2 * r + 1) (λ i. one (p (at r i)))
 -- how many of the cells (x, y), with x and y from -r to r, pass a test
 unfoldable pub count : ℕ → Test → ℕ
 count r p = sum (2 * r + 1) (λ j. row r (λ x. p x (at r j)))
-
--- the cell (x, y) has x and y from -r to r
-pub record Square (r : ℕ) (x y : ℤ) : Type 0 where
-  pub west : negℤ (pos r) ≤ℤ x
-  pub east : x ≤ℤ pos r
-  pub south : negℤ (pos r) ≤ℤ y
-  pub north : y ≤ℤ pos r
 
 -- n is the number of cells within the bounds c, in the map's square and in every larger one; it is 1 or more, and fits 32 bits
 pub record Counted (c : Octagon) (n : ℕ) : Type 0 where

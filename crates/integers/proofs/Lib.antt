@@ -6,3 +6,4 @@ pub mod Between
 pub mod Minimum
 pub mod Range
 pub mod Multiples
+pub mod Products

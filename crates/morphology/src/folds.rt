@@ -9,14 +9,16 @@ ghost use Rattle.morphology.specs.Marks.{«spread-outcome», unmarked};
 ghost use Rattle.morphology.specs.Premises.{«opened-n»};
 ghost use Rattle.morphology.specs.Folds as spec;
 use crate::Spread;
-use crate::bounds::differences;
-use crate::bounds::fit;
+use crate::bounds::fit_wide;
 use crate::bounds::multiples;
-use crate::bounds::place;
-use crate::bounds::sums;
+use crate::bounds::place_wide;
+use crate::bounds::wide_differences;
+use crate::bounds::wide_sums;
 use crate::rows::are_opposed;
 use octagon::Answer;
 use octagon::Octagon;
+use octagon::bounds::narrow;
+use octagon::bounds::widen;
 use octagon::normalise;
 
 // The most folds of a call.
@@ -40,7 +42,10 @@ pub fn dilate_n(plot: Octagon, element: Octagon, n: u32) -> Spread
     let Answer::Octagon(b) = second else {
         return Spread::new(second, false);
     };
-    Spread::new(place(sums(a, multiples(n, b))), (0 < n) & are_opposed(a, b))
+    Spread::new(
+        place_wide(wide_sums(widen(a), multiples(n, b))),
+        (0 < n) & are_opposed(a, b),
+    )
 }
 
 // The plot eroded n times by the element.
@@ -58,7 +63,7 @@ pub fn erode_n(plot: Octagon, element: Octagon, n: u32) -> Answer
     let Answer::Octagon(b) = second else {
         return second;
     };
-    fit(differences(a, multiples(n, b)))
+    fit_wide(wide_differences(widen(a), multiples(n, b)))
 }
 
 // A plot opened by n folds of an element, both normalised: n trims, and then n spreads of what they leave. It lies in the plot, so the
@@ -68,9 +73,9 @@ pub fn open_forms_n(a: Octagon, b: Octagon, n: u32) -> Answer
     ensures { λ r. ⌜ outcome r ≡ unmarked («opened-n» a b n) ⌝ }
 {
     let folded = multiples(n, b);
-    let eroded = fit(differences(a, folded));
+    let eroded = fit_wide(wide_differences(widen(a), folded));
     let Answer::Octagon(left) = eroded else {
         return eroded;
     };
-    Answer::Octagon(sums(left, folded))
+    Answer::Octagon(narrow(wide_sums(widen(left), folded)))
 }

@@ -1,8 +1,9 @@
 -- The bounds of a normal form in a machine's widths. Assumes nothing.
 use Prim.Native.Nat.{ℕ, suc}
-use lib.IntN.{_+ℤ_}
+use lib.IntN.{ℤ, _+ℤ_}
 use mir.Syntax.{w32, w64}
-use Rattle.integers.proofs.Range.{signs, room-fits, room-less, room-add, room-min}
+use Rattle.integers.specs.Range.{Room}
+use Rattle.integers.proofs.Range.{room-fits, room-less, room-i32, room-add, room-half, room-min}
 use Rattle.octagon.specs.declared.Octagon.{Octagon}
 use Rattle.octagon.specs.NormalForm.{even-bound, odd-bound, tight-even, tight-odd, normal-form}
 use Rattle.octagon.specs.Widths.{Held, Roomy}
@@ -31,18 +32,36 @@ roomy-less r = record {
   room7 = room-less (r .room7);
 }
 
--- from bounds in 32 bits, every step of the normal form stays far within 64
-pub roomy-even : (c : Octagon) → Held w32 c → Roomy 2 (tight-even c)
-unfolding tight-even even-bound
+-- bounds in 32 bits leave room for sums of eight, and more
+pub roomy-wide : {c : Octagon} → Held w32 c → Roomy 3 c
+roomy-wide h = record {
+  room0 = room-i32 3 tt (h .held0);
+  room1 = room-i32 3 tt (h .held1);
+  room2 = room-i32 3 tt (h .held2);
+  room3 = room-i32 3 tt (h .held3);
+  room4 = room-i32 3 tt (h .held4);
+  room5 = room-i32 3 tt (h .held5);
+  room6 = room-i32 3 tt (h .held6);
+  room7 = room-i32 3 tt (h .held7);
+}
+
+-- from bounds with such room, every step of the normal form stays within 64 bits
+even-room : {a b c d e : ℤ} → Room 3 a → Room 3 b → Room 3 c → Room 3 d → Room 3 e → Room 2 (even-bound a b c d e)
+unfolding even-bound
+even-room {a} {b} {c} {d} {e} f g h i j =
+    room-min _ _ (room-min _ _ (room-less h) (room-add f i)) (room-min _ _ (room-add g j) (room-half _ (room-add g i)))
+
+pub roomy-even : (c : Octagon) → Roomy 3 c → Roomy 2 (tight-even c)
+unfolding tight-even
 roomy-even c h = record {
-  room0 = search signs depth 8;
-  room1 = search signs depth 8;
-  room2 = search signs depth 8;
-  room3 = search signs depth 8;
-  room4 = search signs depth 8;
-  room5 = search signs depth 8;
-  room6 = search signs depth 8;
-  room7 = search signs depth 8;
+  room0 = even-room (h .room6) (h .room7) (h .room0) (h .room1) (h .room2);
+  room1 = room-less (h .room1);
+  room2 = even-room (h .room0) (h .room1) (h .room2) (h .room3) (h .room4);
+  room3 = room-less (h .room3);
+  room4 = even-room (h .room2) (h .room3) (h .room4) (h .room5) (h .room6);
+  room5 = room-less (h .room5);
+  room6 = even-room (h .room4) (h .room5) (h .room6) (h .room7) (h .room0);
+  room7 = room-less (h .room7);
 }
 
 pub roomy-odd : (c : Octagon) → Roomy 2 c → Roomy 1 (tight-odd c)
@@ -58,6 +77,6 @@ roomy-odd c h = record {
   room7 = room-min (c .c7) (c .c6 +ℤ c .c0) (room-less (h .room7)) (room-add (h .room6) (h .room0));
 }
 
-pub roomy-form : (c : Octagon) → Held w32 c → Roomy 1 (normal-form c)
+pub roomy-form : (c : Octagon) → Roomy 3 c → Roomy 1 (normal-form c)
 unfolding normal-form
 roomy-form c h = roomy-odd (tight-even c) (roomy-even c h)

@@ -84,7 +84,7 @@ pub smallest-on-map : {a : Octagon} {A : Cells} → Smallest a A → A ⊆ OnMap
 unfolding up dn whole-map
 smallest-on-map s h x y i = near-cells whole-map (omega arith) x y (s .least whole-map (λ u v k. cell-in (go u v (on-grid (h u v k)))) x y i)
   where
-    go : (u v : ℤ) → OnGrid u v → Within whole-map u v
+    go : (u v : ℤ) → OnGrid limit u v → Within whole-map u v
     go u v g = omega arith
 
 -- ---- its place on the map

@@ -1,11 +1,12 @@
 -- A cell within bounds, and bounds whose sides are nought or more, as linear facts that `omega` reads.
 -- `within` and `cell-in` lead to and from the sets of specs/Cells.antt. Assumes nothing.
 use native.Mathlib.Omega.{arith}
-use lib.IntN.{ℤ, negℤ, _+ℤ_, _-ℤ_}
+use Prim.Native.Nat.{ℕ}
+use lib.IntN.{ℤ, pos, negℤ, _+ℤ_, _-ℤ_}
 use Rattle.integers.proofs.Parts.{up, dn, sum-parts, diff-parts, neg-up, neg-dn, le-parts}
 use Rattle.integers.proofs.Linear.{#, _⊕_, neg, lit, _≼_, _≈_, le}
 use Rattle.octagon.specs.declared.Octagon.{Octagon}
-use Rattle.octagon.specs.Cells.{In, OnMap, limit}
+use Rattle.octagon.specs.Cells.{In, Square, limit}
 
 -- the cell (x, y) is within the bounds
 pub record Within (c : Octagon) (x y : ℤ) : Type 0 where
@@ -69,29 +70,33 @@ pub record Normal (c : Octagon) : Type 0 where
   pub s6 : # (c .c6) ⊕ # (c .c6) ≼ # (c .c5) ⊕ # (c .c7)
   pub s7 : # (c .c7) ≼ # (c .c6) ⊕ # (c .c0)
 
+-- the even bounds are at most r
+pub record NearTo (r : ℕ) (c : Octagon) : Type 0 where
+  pub near0 : # (c .c0) ≼ lit r
+  pub near2 : # (c .c2) ≼ lit r
+  pub near4 : # (c .c4) ≼ lit r
+  pub near6 : # (c .c6) ≼ lit r
+
 -- the even bounds are within the map's limit
-pub record Near (c : Octagon) : Type 0 where
-  pub near0 : # (c .c0) ≼ lit limit
-  pub near2 : # (c .c2) ≼ lit limit
-  pub near4 : # (c .c4) ≼ lit limit
-  pub near6 : # (c .c6) ≼ lit limit
+abbrev pub Near : Octagon → Type 0
+Near = NearTo limit
 
--- the cell (x, y) is on the map
-pub record OnGrid (x y : ℤ) : Type 0 where
-  pub west : neg (lit limit) ≼ # x
-  pub east : # x ≼ lit limit
-  pub south : neg (lit limit) ≼ # y
-  pub north : # y ≼ lit limit
+-- the cell (x, y) has both coordinates from -r to r
+pub record OnGrid (r : ℕ) (x y : ℤ) : Type 0 where
+  pub west : neg (lit r) ≼ # x
+  pub east : # x ≼ lit r
+  pub south : neg (lit r) ≼ # y
+  pub north : # y ≼ lit r
 
-pub on-grid : {x y : ℤ} → OnMap x y → OnGrid x y
+pub on-grid : {r : ℕ} {x y : ℤ} → Square r x y → OnGrid r x y
 unfolding up dn
-on-grid {x} {y} m = omega (arith, le-parts)
+on-grid {r} {x} {y} m = omega (arith, le-parts, neg-up (pos r), neg-dn (pos r))
 
-pub on-map : {x y : ℤ} → OnGrid x y → OnMap x y
+pub on-square : {r : ℕ} {x y : ℤ} → OnGrid r x y → Square r x y
 unfolding up dn
-on-map {x} {y} m = record {
-  west = le (neg (lit limit)) (# x) (omega arith) (omega arith) (m .west);
-  east = le (# x) (lit limit) (omega arith) (omega arith) (m .east);
-  south = le (neg (lit limit)) (# y) (omega arith) (omega arith) (m .south);
-  north = le (# y) (lit limit) (omega arith) (omega arith) (m .north);
+on-square {r} {x} {y} m = record {
+  west = le (neg (lit r)) (# x) (omega (arith, neg-up (pos r), neg-dn (pos r))) (omega arith) (m .west);
+  east = le (# x) (lit r) (omega arith) (omega arith) (m .east);
+  south = le (neg (lit r)) (# y) (omega (arith, neg-up (pos r), neg-dn (pos r))) (omega arith) (m .south);
+  north = le (# y) (lit r) (omega arith) (omega arith) (m .north);
 }

@@ -45,20 +45,28 @@ pub record In (c : Octagon) (x y : ℤ) : Type 0 where
   pub in6 : negℤ x ≤ℤ c .c6
   pub in7 : (negℤ x -ℤ y) ≤ℤ c .c7
 
+-- the cell (x, y) has both coordinates from -r to r
+pub record Square (r : ℕ) (x y : ℤ) : Type 0 where
+  pub west : negℤ (pos r) ≤ℤ x
+  pub east : x ≤ℤ pos r
+  pub south : negℤ (pos r) ≤ℤ y
+  pub north : y ≤ℤ pos r
+
+-- some cell of a set is outside that square
+abbrev pub Leaves : ℕ → Cells → Type 0
+Leaves r A = Some (λ x y. A x y × ¬ (Square r x y))
+
 -- the map's limit, in cells from its middle
 abbrev pub limit : ℕ
 limit = 16000
 
 -- the cell (x, y) is on the map
-pub record OnMap (x y : ℤ) : Type 0 where
-  pub west : negℤ (pos limit) ≤ℤ x
-  pub east : x ≤ℤ pos limit
-  pub south : negℤ (pos limit) ≤ℤ y
-  pub north : y ≤ℤ pos limit
+abbrev pub OnMap : Cells
+OnMap = Square limit
 
 -- some cell of a set is off the map
 abbrev pub LeavesMap : Cells → Type 0
-LeavesMap A = Some (λ x y. A x y × ¬ (OnMap x y))
+LeavesMap = Leaves limit
 
 -- each bound is reached by a cell of the set: some cell of it meets the bound with equality
 pub record ReachedBy (A : Cells) (c : Octagon) : Type 0 where

@@ -2,6 +2,7 @@
 -- proofs/NormalForms.antt says what the answers mean in sets, proofs/Sides.antt what the sides tell. Assumes nothing.
 use mathlib.Core.Path.{_≡_}
 use mathlib.Core.Bool.{Bool, cond, _&&_}
+use Prim.Native.Nat.{ℕ}
 use lib.IntN.{ℤ, pos, _+ℤ_, _-ℤ_}
 use lib.Signed.{leZ, _≤ℤ_}
 use Rattle.integers.specs.Minimum.{minℤ, halfℤ}
@@ -99,16 +100,19 @@ meet a b = leZ (pos 0) (a +ℤ b)
 unfoldable pub has-cell : Octagon → Bool
 has-cell c = meet (c .c0) (c .c4) && meet (c .c1) (c .c5) && meet (c .c2) (c .c6) && meet (c .c3) (c .c7)
 
--- a bound is within the map's limit
-abbrev pub within-limit : ℤ → Bool
-within-limit z = leZ z (pos limit)
+-- normalised bounds are within the square from -r to r where the even ones are at most r
+abbrev pub are-within : ℕ → ℤ → ℤ → ℤ → ℤ → Bool
+are-within r c0 c2 c4 c6 = leZ c0 (pos r) && leZ c2 (pos r) && leZ c4 (pos r) && leZ c6 (pos r)
 
+abbrev pub is-within : ℕ → Octagon → Bool
+is-within r c = are-within r (c .c0) (c .c2) (c .c4) (c .c6)
+
+-- and on the map where they are at most its limit
 abbrev pub are-within-limit : ℤ → ℤ → ℤ → ℤ → Bool
-are-within-limit c0 c2 c4 c6 = within-limit c0 && within-limit c2 && within-limit c4 && within-limit c6
+are-within-limit = are-within limit
 
--- normalised bounds are on the map where the even ones are within the limit
 unfoldable pub is-on-map : Octagon → Bool
-is-on-map c = are-within-limit (c .c0) (c .c2) (c .c4) (c .c6)
+is-on-map c = is-within limit c
 
 -- normalised bounds, refused where they leave the map
 unfoldable pub placed : Octagon → Outcome Octagon

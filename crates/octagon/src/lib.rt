@@ -3,10 +3,12 @@
 // The cells of an octagon are those with -y <= c0, x-y <= c1, x <= c2, x+y <= c3, y <= c4, -x+y <= c5, -x <= c6, -x-y <= c7.
 // specs/Cells.antt has the sets, specs/NormalForm.antt what `normalise` answers, proofs/NormalForms.antt the theorems between them.
 ghost use mathlib.Core.Path.{_≡_};
+ghost use lib.IntN.{pos};
+ghost use lib.Signed.{leZ};
 ghost use Rattle.octagon.specs.NormalForm as form;
 ghost use Rattle.octagon.specs.Answers.{outcome};
 
-mod bounds;
+pub mod bounds;
 
 // Document 01's plot, frame or clearance: eight bounds, every value allowed.
 pub struct Octagon {
@@ -67,24 +69,33 @@ pub const OFF_MAP: u32 = 2;
 pub fn normalise(o: Octagon) -> Answer
     ensures { λ r. ⌜ outcome r ≡ form.normalised o ⌝ }
 {
-    let b = bounds::tighten_odd(bounds::tighten_even(o));
-    let some = bounds::has_cell(b);
-    if some & bounds::is_on_map(b) {
-        return Answer::Octagon(bounds::narrow(b));
-    }
-    Answer::Refused(if some { OFF_MAP } else { NO_CELL })
+    bounds::normalise_bounds(bounds::widen(o))
 }
 
-// Whether a bound is within the map's limit.
-fn within_limit(c: i64) -> bool
-    ensures { λ r. ⌜ r ≡ form.within-limit c ⌝ }
+// Whether a bound is at most a limit.
+fn at_most(c: i64, limit: u32) -> bool
+    ensures { λ r. ⌜ r ≡ leZ c (pos limit) ⌝ }
 {
-    c <= Octagon::LIMIT as i64
+    c <= limit as i64
+}
+
+// Whether normalised bounds are within the square of cells with both coordinates from -limit to limit, by the even ones.
+fn are_within(limit: u32, c0: i64, c2: i64, c4: i64, c6: i64) -> bool
+    ensures { λ r. ⌜ r ≡ form.are-within limit c0 c2 c4 c6 ⌝ }
+{
+    at_most(c0, limit) & at_most(c2, limit) & at_most(c4, limit) & at_most(c6, limit)
 }
 
 // Whether normalised bounds are on the map, by the even ones.
 pub fn on_map(c0: i64, c2: i64, c4: i64, c6: i64) -> bool
     ensures { λ r. ⌜ r ≡ form.are-within-limit c0 c2 c4 c6 ⌝ }
 {
-    within_limit(c0) & within_limit(c2) & within_limit(c4) & within_limit(c6)
+    are_within(Octagon::LIMIT as u32, c0, c2, c4, c6)
+}
+
+// Whether an octagon, by its normalised bounds, is within the square of cells with both coordinates from -limit to limit.
+pub fn is_within(a: Octagon, limit: u32) -> bool
+    ensures { λ r. ⌜ r ≡ form.is-within limit a ⌝ }
+{
+    are_within(limit, a.c0 as i64, a.c2 as i64, a.c4 as i64, a.c6 as i64)
 }

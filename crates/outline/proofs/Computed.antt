@@ -1,5 +1,5 @@
--- Small values of the definitions, computed: an outline whose eight sides differ, its octagon, its vertices in metres, and refusals; and
--- outlines compared. Assumes nothing.
+-- Small values of the definitions, computed: an outline whose eight sides differ, its octagon, its vertices in metres, and refusals; the
+-- same on smaller maps; and outlines compared. Assumes nothing.
 use mathlib.Core.Path.{_≡_, refl}
 use mathlib.Core.Bool.{true, false}
 use mathlib.Core.List.{List, [], _∷_, _++_, map}
@@ -11,10 +11,11 @@ use Rattle.integers.specs.Minimum.{minℤ, halfℤ}
 use Rattle.octagon.specs.declared.Octagon.{Octagon}
 use Rattle.octagon.specs.Outcome.{accepted, refused}
 use Rattle.octagon.specs.NormalForm.{even-bound, odd-bound, tight-even, tight-odd, normal-form, sides, has-cell, is-on-map, placed, normalised}
+use Rattle.octagon.proofs.Examples.{touching}
 use Rattle.outline.specs.declared.Outline.{Outline}
 use Rattle.outline.specs.Closing.{closes}
 use Rattle.outline.specs.Walk.{with-sides, vertex}
-use Rattle.outline.specs.Tracing.{bounds-at, drawn, traced}
+use Rattle.outline.specs.Tracing.{bounds-at, drawn, traced, traced-in}
 use Rattle.outline.specs.Outlining.{outline-of, outlined}
 use Rattle.outline.specs.Places.{over, place-of-vertex, located}
 use Rattle.outline.specs.Sameness.{same-outline}
@@ -63,6 +64,19 @@ vertex-7 = refl
 vertex-8 : located its-bounds 8 ≡ refused 7
 unfolding located place-of-vertex outlined normalised normal-form tight-odd tight-even even-bound odd-bound minℤ halfℤ has-cell placed is-on-map outline-of sides
 vertex-8 = refl
+
+-- ---- on a smaller map
+
+-- the same sides from the starts (9, -17), (13, -9), (8, 0) and (-10, -8): 17 cells from the middle to the south, east, north and west
+abbrev starting : List ℕ → List Outline
+starting n = with-sides (pos 9) (negsuc 16) n ∷ with-sides (pos 13) (negsuc 8) n ∷ with-sides (pos 8) (pos 0) n ∷ with-sides (negsuc 9) (negsuc 7) n ∷ []
+
+-- their octagons on the map from -17 to 17, and 2 on that from -16 to 16; and 3 there with the first side one longer
+on-smaller : (map (traced-in 17) (starting (3 ∷ 1 ∷ 14 ∷ 2 ∷ 5 ∷ 4 ∷ 6 ∷ 7 ∷ [])) ≡ map accepted touching)
+    × (map (traced-in 16) (starting (3 ∷ 1 ∷ 14 ∷ 2 ∷ 5 ∷ 4 ∷ 6 ∷ 7 ∷ [])) ≡ replicate 4 (refused 2))
+    × (map (traced-in 16) (starting (4 ∷ 1 ∷ 14 ∷ 2 ∷ 5 ∷ 4 ∷ 6 ∷ 7 ∷ [])) ≡ replicate 4 (refused 3))
+unfolding traced-in traced closes placed is-on-map drawn bounds-at vertex
+on-smaller = (refl, refl, refl)
 
 -- ---- outlines compared
 

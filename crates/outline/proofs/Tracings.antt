@@ -1,21 +1,23 @@
--- An outline and its octagon, in the words of document 01: what is accepted and what each refusal says. Assumes nothing.
-use mathlib.Core.Path.{_≡_, refl, sym, _∙_}
+-- An outline and its octagon, in the words of document 01: what is accepted and what each refusal says, on the map and on a smaller one.
+-- Assumes nothing.
+use mathlib.Core.Path.{_≡_, refl, sym, ap, _∙_}
+use mathlib.Core.Bool.{cond}
 use mathlib.Core.Logic.{_↔_, _⊎_, inl, inr}
-use Prim.Native.Nat.{ℕ}
+use Prim.Native.Nat.{ℕ, _≤_}
 use native.Mathlib.Omega.{arith}
 use Rattle.integers.proofs.Tests.{cases, true-is-not-false}
 use Rattle.octagon.specs.declared.Octagon.{Octagon}
-use Rattle.octagon.specs.Outcome.{Outcome, accepted, refused, off-map}
-use Rattle.octagon.specs.Cells.{_⊆_, In, OnMap, LeavesMap}
-use Rattle.octagon.specs.NormalForm.{is-on-map, placed}
+use Rattle.octagon.specs.Outcome.{Outcome, accepted, refused, then, off-map}
+use Rattle.octagon.specs.Cells.{_⊆_, In, Square, Leaves, OnMap, LeavesMap, limit}
+use Rattle.octagon.specs.NormalForm.{is-within, is-on-map, placed}
 use Rattle.octagon.proofs.Outcomes.{accepted-same, refused-same, accepted-not-refused}
-use Rattle.octagon.proofs.Within.{Normal, Near}
-use Rattle.octagon.proofs.Vertices.{normal-normalised}
-use Rattle.octagon.proofs.Map.{test-near, near-cells, far-cell}
+use Rattle.octagon.proofs.Within.{Normal, NearTo, Near}
+use Rattle.octagon.proofs.Vertices.{normal-normalised, normal-reached}
+use Rattle.octagon.proofs.Map.{test-within, within-test, near-square, past-reached, square-larger, test-near, near-cells, far-cell}
 use Rattle.outline.specs.declared.Outline.{Outline}
 use Rattle.outline.specs.Closing.{Closes, closes}
 use Rattle.outline.specs.Walk.{InsideWalk}
-use Rattle.outline.specs.Tracing.{not-closed, drawn, traced}
+use Rattle.outline.specs.Tracing.{not-closed, drawn, traced, traced-in}
 use Rattle.outline.specs.Meaning.{OctagonOf}
 use Rattle.outline.proofs.Closed.{test-closes, closes-test}
 use Rattle.outline.proofs.Drawn.{closed-normal}
@@ -58,50 +60,112 @@ accepted-drawn o a = go (tracing o)
     go (is-open h) q = absurd (accepted-not-refused (sym q))
     go (is-off k h) q = absurd (accepted-not-refused (sym q))
 
--- and that is so for all outlines that close and whose cells are on the map
-pub accepted-when : (o : Outline) → Closes o → InsideWalk o ⊆ OnMap → (a : Octagon) × (traced o ≡ accepted a)
-accepted-when o k h = go (tracing o) refl
+-- ---- on the smaller map from -r to r, by way of the whole one
+
+-- each answer, with what it says of the outline
+pub data TracingIn (r : ℕ) (o : Outline) : Outcome Octagon → Type 0 where
+  is-octagon-in : (a : Octagon) → traced o ≡ accepted a → NearTo r a → TracingIn r o (accepted a)
+  is-open-in : ¬ (Closes o) → TracingIn r o (refused not-closed)
+  is-off-in : Closes o → Leaves r (InsideWalk o) → TracingIn r o (refused off-map)
+
+module _ (r : ℕ) (l : r ≤ limit) (o : Outline) where
+  pub tracing-in : TracingIn r o (traced-in r o)
+  unfolding traced-in
+  tracing-in = go (tracing o) refl
+    where
+      leaves : (a : Octagon) → a ≡ drawn o → Leaves r (In a) → Leaves r (InsideWalk o)
+      leaves a e f = record { x = f .x; y = f .y; cell = (inside-walk o (f .x) (f .y) .0 (rw e at (f .cell .0)), f .cell .1) }
+
+      go : {t : Outcome Octagon} → Tracing o t → traced o ≡ t → TracingIn r o (then t (λ a. cond (is-within r a) (accepted a) (refused off-map)))
+      go (is-octagon a e k n m) q =
+          cases (is-within r a)
+          (λ h. rw h (is-octagon-in a q (test-within r a h)))
+          (λ h. rw h (is-off-in k (leaves a e (past-reached r a (normal-reached a n) h))))
+      go (is-open f) q = is-open-in f
+      go (is-off k f) q = is-off-in k (record { x = f .x; y = f .y; cell = (f .cell .0, λ m. f .cell .1 (square-larger r limit l m)) })
+
+  -- accepted: the octagon of the outline, and every cell inside the walk is on the smaller map
+  pub in-means : (a : Octagon) → traced-in r o ≡ accepted a → (traced o ≡ accepted a) × NearTo r a × (InsideWalk o ⊆ Square r)
+  in-means a = go tracing-in
+    where
+      go : {t : Outcome Octagon} → TracingIn r o t → t ≡ accepted a → (traced o ≡ accepted a) × NearTo r a × (InsideWalk o ⊆ Square r)
+      go (is-octagon-in b e m) q =
+          let f = accepted-same q in
+          (e ∙ ap accepted f, rw f at m, λ x y i. near-square r b m x y (accepted-means o b e .same-cells x y .1 i))
+      go (is-open-in h) q = absurd (accepted-not-refused (sym q))
+      go (is-off-in k h) q = absurd (accepted-not-refused (sym q))
+
+  -- and that is so wherever the outline closes and its cells are on the smaller map
+  pub in-when : Closes o → InsideWalk o ⊆ Square r → (a : Octagon) × (traced-in r o ≡ accepted a)
+  in-when k h = go tracing-in refl
+    where
+      go : {t : Outcome Octagon} → TracingIn r o t → traced-in r o ≡ t → (a : Octagon) × (traced-in r o ≡ accepted a)
+      go (is-octagon-in b e m) q = (b, q)
+      go (is-open-in f) q = absurd (f k)
+      go (is-off-in c f) q = absurd (f .cell .1 (h (f .x) (f .y) (f .cell .0)))
+
+  -- 3 exactly where it does not close
+  pub in-not-closed : (traced-in r o ≡ refused not-closed) ↔ (¬ (Closes o))
+  in-not-closed = (to tracing-in, from tracing-in refl)
+    where
+      to : {t : Outcome Octagon} → TracingIn r o t → t ≡ refused not-closed → ¬ (Closes o)
+      to (is-octagon-in b e m) q = absurd (accepted-not-refused q)
+      to (is-open-in h) q = h
+      to (is-off-in k h) q = absurd (let z = refused-same q in omega arith)
+
+      from : {t : Outcome Octagon} → TracingIn r o t → traced-in r o ≡ t → ¬ (Closes o) → traced-in r o ≡ refused not-closed
+      from (is-octagon-in b e m) q f = absurd (f (accepted-means o b e .closed))
+      from (is-open-in h) q f = q
+      from (is-off-in k h) q f = absurd (f k)
+
+  -- 2 exactly where it closes and some cell lies off the smaller map
+  pub in-off-map : (traced-in r o ≡ refused off-map) ↔ (Closes o × Leaves r (InsideWalk o))
+  in-off-map = (to tracing-in, from tracing-in refl)
+    where
+      to : {t : Outcome Octagon} → TracingIn r o t → t ≡ refused off-map → Closes o × Leaves r (InsideWalk o)
+      to (is-octagon-in b e m) q = absurd (accepted-not-refused q)
+      to (is-open-in h) q = absurd (let z = refused-same q in omega arith)
+      to (is-off-in k h) q = (k, h)
+
+      from : {t : Outcome Octagon} → TracingIn r o t → traced-in r o ≡ t → Closes o × Leaves r (InsideWalk o) → traced-in r o ≡ refused off-map
+      from (is-octagon-in b e m) q f =
+          let s = f .1 in
+          absurd (s .cell .1 (near-square r b m (s .x) (s .y) (accepted-means o b e .same-cells (s .x) (s .y) .1 (s .cell .0))))
+      from (is-open-in h) q f = absurd (h (f .0))
+      from (is-off-in k h) q f = q
+
+  -- and no other refusal is ever given
+  pub in-refused-only : (k : ℕ) → traced-in r o ≡ refused k → (k ≡ not-closed) ⊎ (k ≡ off-map)
+  in-refused-only k = go tracing-in
+    where
+      go : {t : Outcome Octagon} → TracingIn r o t → t ≡ refused k → (k ≡ not-closed) ⊎ (k ≡ off-map)
+      go (is-octagon-in b e m) q = absurd (accepted-not-refused q)
+      go (is-open-in h) q = inl (sym (refused-same q))
+      go (is-off-in c h) q = inr (sym (refused-same q))
+
+-- ---- on the whole map, which is the map from -limit to limit
+
+pub in-limit : (o : Outline) → traced-in limit o ≡ traced o
+unfolding traced-in
+in-limit o = go (tracing o)
   where
-    go : {t : Outcome Octagon} → Tracing o t → traced o ≡ t → (a : Octagon) × (traced o ≡ accepted a)
-    go (is-octagon b e l n m) q = (b, q)
-    go (is-open f) q = absurd (f k)
-    go (is-off l f) q = absurd (f .cell .1 (h (f .x) (f .y) (f .cell .0)))
+    go : {t : Outcome Octagon} → Tracing o t → then t (λ a. cond (is-within limit a) (accepted a) (refused off-map)) ≡ t
+    go (is-octagon a e k n m) = rw (within-test limit a m)
+    go (is-open h) = refl
+    go (is-off k h) = refl
+
+-- accepted wherever the outline closes and its cells are on the map
+pub accepted-when : (o : Outline) → Closes o → InsideWalk o ⊆ OnMap → (a : Octagon) × (traced o ≡ accepted a)
+accepted-when o = rw (in-limit o) at (in-when limit (omega arith) o)
 
 -- "3 when it does not close": exactly where one of the two equations fails
 pub refused-not-closed : (o : Outline) → (traced o ≡ refused not-closed) ↔ (¬ (Closes o))
-refused-not-closed o = (to (tracing o), from (tracing o) refl)
-  where
-    to : {t : Outcome Octagon} → Tracing o t → t ≡ refused not-closed → ¬ (Closes o)
-    to (is-octagon b e k n m) q = absurd (accepted-not-refused q)
-    to (is-open h) q = h
-    to (is-off k h) q = absurd (let z = refused-same q in omega arith)
-
-    from : {t : Outcome Octagon} → Tracing o t → traced o ≡ t → ¬ (Closes o) → traced o ≡ refused not-closed
-    from (is-octagon b e k n m) q f = absurd (f k)
-    from (is-open h) q f = q
-    from (is-off k h) q f = absurd (f k)
+refused-not-closed o = rw (in-limit o) at (in-not-closed limit (omega arith) o)
 
 -- "2 as above": exactly where it closes and some cell lies off the map
 pub refused-off-map : (o : Outline) → (traced o ≡ refused off-map) ↔ (Closes o × LeavesMap (InsideWalk o))
-refused-off-map o = (to (tracing o), from (tracing o) refl)
-  where
-    to : {t : Outcome Octagon} → Tracing o t → t ≡ refused off-map → Closes o × LeavesMap (InsideWalk o)
-    to (is-octagon b e k n m) q = absurd (accepted-not-refused q)
-    to (is-open h) q = absurd (let z = refused-same q in omega arith)
-    to (is-off k h) q = (k, h)
-
-    from : {t : Outcome Octagon} → Tracing o t → traced o ≡ t → Closes o × LeavesMap (InsideWalk o) → traced o ≡ refused off-map
-    from (is-octagon b e k n m) q f =
-        let s = f .1 in
-        absurd (s .cell .1 (near-cells b m (s .x) (s .y) (rw e (inside-walk o (s .x) (s .y) .1 (s .cell .0)))))
-    from (is-open h) q f = absurd (h (f .0))
-    from (is-off k h) q f = q
+refused-off-map o = rw (in-limit o) at (in-off-map limit (omega arith) o)
 
 -- and no other refusal is ever given
 pub refused-only : (o : Outline) (k : ℕ) → traced o ≡ refused k → (k ≡ not-closed) ⊎ (k ≡ off-map)
-refused-only o k = go (tracing o)
-  where
-    go : {t : Outcome Octagon} → Tracing o t → t ≡ refused k → (k ≡ not-closed) ⊎ (k ≡ off-map)
-    go (is-octagon b e l n m) q = absurd (accepted-not-refused q)
-    go (is-open h) q = inl (sym (refused-same q))
-    go (is-off l h) q = inr (sym (refused-same q))
+refused-only o = rw (in-limit o) at (in-refused-only limit (omega arith) o)

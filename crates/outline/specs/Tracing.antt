@@ -3,8 +3,8 @@ use mathlib.Core.Bool.{cond}
 use Prim.Native.Nat.{ℕ}
 use lib.IntN.{negℤ, _+ℤ_, _-ℤ_}
 use Rattle.octagon.specs.declared.Octagon.{Octagon}
-use Rattle.octagon.specs.Outcome.{Outcome, refused}
-use Rattle.octagon.specs.NormalForm.{placed}
+use Rattle.octagon.specs.Outcome.{Outcome, accepted, refused, then, off-map}
+use Rattle.octagon.specs.NormalForm.{is-within, placed}
 use Rattle.outline.specs.declared.Outline.{Outline}
 use Rattle.outline.specs.declared.walk.Cell.{Cell}
 use Rattle.outline.specs.Closing.{closes}
@@ -34,3 +34,7 @@ drawn o = bounds-at (vertex o 1) (vertex o 3) (vertex o 5) (vertex o 7)
 -- what `to_octagon` answers
 unfoldable pub traced : Outline → Outcome Octagon
 traced o = cond (closes o) (placed (drawn o)) (refused not-closed)
+
+-- the same on the smaller map from -r to r: 2 where the octagon leaves it
+unfoldable pub traced-in : ℕ → Outline → Outcome Octagon
+traced-in r o = then (traced o) (λ a. cond (is-within r a) (accepted a) (refused off-map))

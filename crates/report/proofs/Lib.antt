@@ -10,3 +10,4 @@ pub mod Divisions
 pub mod LinesRead
 pub mod ReadBacks
 pub mod Examples
+pub mod EdgeListings

@@ -33,3 +33,4 @@ pub mod JoinLaws
 pub mod Computed
 pub mod ComputedRefusals
 pub mod ComputedJoins
+pub mod ComputedEdges

@@ -1,5 +1,5 @@
-// Sheets made in memory by `start` and `insert`, or at 24 byte by byte, spoilt and grown, and what each call answers. tests/sheet_cases.py
-// works the expected output out on its own.
+// Sheets made in memory by `start` and `insert`, or byte by byte, spoilt and grown, and what each call answers. tests/sheet_cases.py works
+// the expected output out on its own.
 use answers::show;
 use making::NARROW;
 use making::WIDE;
@@ -7,6 +7,7 @@ use making::example;
 use making::tell_written;
 
 mod answers;
+mod edges;
 mod fees;
 mod fullest;
 mod headings;
@@ -63,6 +64,8 @@ fn main() {
     spoilt::narrow_twice();
     spoilt::wide_twice();
     orders::outlines();
+    edges::edges(24);
+    edges::edges(26);
     fees::fees();
     headings::ordered(7, 256, 65537);
     headings::ordered(65537, 256, 7);

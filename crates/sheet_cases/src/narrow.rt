@@ -1,4 +1,4 @@
-// Sheets of 24, written byte by byte with no call of the crate `sheet`.
+// Sheets of 24, and the parts of sheets of either record length, written byte by byte with no call of the crate `sheet`.
 use crate::headings::put;
 use crate::plots::plot;
 use crate::plots::wide;
@@ -24,8 +24,13 @@ fn twos(z: i32) -> u32 {
     m as u32
 }
 
-// The bytes of a record.
-fn narrow_record(number: u32, o: Outline) -> [u8; 24] {
+// The bytes of a number below 65,536.
+pub fn two_bytes(v: u32) -> [u8; 2] {
+    [low(v), high(v)]
+}
+
+// The bytes of a record, but for its fee row.
+pub fn narrow_record(number: u32, o: Outline) -> [u8; 24] {
     let above = number / 65536;
     let i = twos(o.i);
     let j = twos(o.j);

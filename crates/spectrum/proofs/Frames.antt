@@ -23,7 +23,7 @@ use Rattle.cell_count.specs.Count.{inside, without}
 use Rattle.cell_count.specs.Area.{triangle, rectangle, cuts, area, cell-count}
 use Rattle.cell_count.proofs.Counts.{count-some}
 use Rattle.cell_count.proofs.Inside.{inside-is}
-use Rattle.cell_count.proofs.Counted.{own-count, map-square, count-equal, count-difference}
+use Rattle.cell_count.proofs.Counted.{own-count, count-equal, count-difference}
 use Rattle.spectrum.specs.Spectra.{no-other-cell, has-origin, has-one-cell, frame-tested, frame-form}
 use Rattle.spectrum.specs.Cases.{NoOther}
 
@@ -64,7 +64,7 @@ module _ (f b : Octagon) (of-f : normalised f ≡ accepted b) where
         omega (
           arith,
           count-difference origin b 1 (area b) one-counted b-counted limit (omega arith) origin-inside,
-          count-some limit (without (inside b) (inside origin)) x y (map-square (accepted-means f b of-f .on-the-map x y j)) (rw (inside-is b x y .1 j, e) refl),
+          count-some limit (without (inside b) (inside origin)) x y (accepted-means f b of-f .on-the-map x y j) (rw (inside-is b x y .1 j, e) refl),
         )
 
     pub alone-test : (has-one-cell b ≡ true) ↔ NoOther (In f)

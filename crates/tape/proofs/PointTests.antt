@@ -10,7 +10,7 @@ use Rattle.integers.proofs.Tests.{cases, true-is-not-false, both-true, and-true
 use Rattle.octagon.specs.Outcome.{accepted, refused, off-map}
 use Rattle.octagon.specs.Cells.{OnMap}
 use Rattle.octagon.specs.OneCell.{one-cell}
-use Rattle.octagon.proofs.Within.{on-grid, on-map}
+use Rattle.octagon.proofs.Within.{on-grid, on-square}
 use Rattle.outline.specs.declared.place.Place.{Place}
 use Rattle.tape.specs.Snapping.{snapped, not-finite, within-edges}
 use Rattle.tape.specs.Enclosing.{point-cell}
@@ -25,7 +25,7 @@ pub tests-on : (p : Place) (x y : ℤ) → within-edges (p .east) ≡ true → w
 tests-on p x y h k e n =
     let a = between-exactly (p .east) x e .0 h in
     let b = between-exactly (p .north) y n .0 k in
-    on-map (record { west = omega (arith, a .0); east = omega (arith, a .1); south = omega (arith, b .0); north = omega (arith, b .1) })
+    on-square (record { west = omega (arith, a .0); east = omega (arith, a .1); south = omega (arith, b .0); north = omega (arith, b .1) })
 
 pub tests-inside : (p : Place) (x y : ℤ) → OnMap x y → snapped (p .east) ≡ accepted x → snapped (p .north) ≡ accepted y →
     point-cell p ≡ accepted (one-cell x y)

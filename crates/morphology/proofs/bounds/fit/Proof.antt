@@ -1,39 +1,19 @@
--- `fit` meets its contract: a refusal for want of a cell is renumbered, and any other answer handed on. Assumes nothing.
-use mathlib.Core.Path.{_≡_, _∙_, ap}
-use Prim.Native.Nat.{ℕ}
-use borrow.Author.Needs.{needs}
-use borrow.Author.Tests.{eq-eqb, ne-eqb}
-use Rattle.octagon.specs.declared.Octagon.{Octagon}
-use Rattle.octagon.specs.Outcome.{Outcome, accepted, refused, no-cell}
-use Rattle.octagon.specs.Answers.{outcome}
-use Rattle.morphology.specs.Operations.{fitting, nothing-left}
-use Rattle.morphology.proofs.Calls.{is-accepted, is-refused}
+-- `fit` meets its contract: bounds of 32 bits have room in 64. Assumes nothing.
+use mathlib.Core.Path.{_∙_, ap}
+use mir.Syntax.{w32}
+use Rattle.integers.proofs.Range.{signs}
+use Rattle.octagon.specs.NormalForm.{normalised}
+use Rattle.octagon.specs.Widths.{Held}
+use Rattle.octagon.proofs.Ranges.{roomy-wide}
+use Rattle.morphology.specs.Operations.{fitting}
 use Rattle.morphology.proofs.bounds.fit.Statement.{statement}
 use Rattle.morphology.proofs.bounds.fit.Tie as tie
 
-accepted-fits : {o : Outcome Octagon} {a : Octagon} → o ≡ accepted a → accepted a ≡ fitting o
-accepted-fits q = rw q
-
-empty-fits : {o : Outcome Octagon} {k : ℕ} → o ≡ refused k → k ≡ no-cell → refused nothing-left ≡ fitting o
-empty-fits {o} {k} q e = rw (q, eq-eqb k no-cell e)
-
-refused-fits : {o : Outcome Octagon} {k : ℕ} → o ≡ refused k → (k ≡ no-cell → ⊥) → refused k ≡ fitting o
-refused-fits {o} {k} q e = rw (q, ne-eqb k no-cell e)
+held : (c : tie.Start) → Held w32 (c .args .d)
+held c = search signs
 
 returns : tie.Need-returns
-returns c =
-    ap outcome (c .enum-told .given .1) ∙ accepted-fits (is-accepted (c .before .before .normalise .ensures) (c .enum-told .given .1))
-
-returns-2 : tie.Need-returns-2
-returns-2 c =
-    let b = c .before .before in
-    empty-fits (is-refused (b .before .before .normalise .ensures) (b .left .given .1)) (c .if1 .taken)
-
-returns-3 : tie.Need-returns-3
-returns-3 c =
-    let b = c .before .before in
-    refused-fits (is-refused (b .before .before .normalise .ensures) (b .left .given .1)) (c .if1 .left)
+returns c = c .fit-wide .ensures ∙ ap (λ o. fitting (normalised o)) (c .before .widen .ensures)
 
 pub fit-spec : {M : Type 1} → statement M
-fit-spec =
-    tie.close (tie.spec (λ c κs. search needs) (λ c. search needs) (λ c. search needs) returns returns-2 returns-3)
+fit-spec = tie.close (tie.spec (λ c κs. tt) (λ c κs. rw (c .widen .ensures) (roomy-wide (held (c .before)))) returns)

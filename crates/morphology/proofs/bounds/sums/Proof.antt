@@ -1,45 +1,27 @@
--- `sums` meets its contract: eight sums, bound for bound. `search` finds a place among those before. Assumes nothing.
-use mathlib.Core.Path.{_≡_}
-use mir.Syntax.{w32}
-use Rattle.integers.proofs.Range.{signs}
-use Rattle.octagon.specs.Widths.{Held}
-use Rattle.octagon.proofs.Fields.{back}
+-- `sums` meets its contract: bounds that fit 32 bits fit 64, and are handed back as they were. Assumes nothing.
+use mathlib.Core.Path.{_≡_, _∙_, ap₂}
+use Rattle.octagon.specs.Answers.{octagon-of}
+use Rattle.octagon.proofs.Ranges.{roomy-wide, roomy-held}
 use Rattle.morphology.specs.Operations.{sums}
-use Rattle.morphology.proofs.ReadBack.{made-held, made-is}
 use Rattle.morphology.proofs.bounds.sums.Statement.{statement}
 use Rattle.morphology.proofs.bounds.sums.Tie as tie
 
-made : (c : tie.Start) → Held w32 (sums (back w32 (c .args .a)) (back w32 (c .args .b)))
-made c = made-held sums (c .args .a) (c .args .b) (search signs) (search signs) (c .pre)
+-- what is made in 64 bits
+made : (c : tie.After-wide-sums) → let s : tie.Start = search in octagon-of (c .wide-sums .result) ≡ sums (s .args .a) (s .args .b)
+made c = let w = c .before in c .wide-sums .ensures ∙ ap₂ sums (w .before .widen .ensures) (w .widen2 .ensures)
 
-kept : (c : tie.Start) → back w32 (sums (back w32 (c .args .a)) (back w32 (c .args .b))) ≡ sums (c .args .a) (c .args .b)
-kept c = made-is sums (c .args .a) (c .args .b) (search signs) (search signs) (c .pre)
+wide-sums-requires : tie.Need-wide-sums-requires
+wide-sums-requires c κs = let s : tie.Start = search in rw (c .before .widen .ensures, c .widen2 .ensures) (roomy-held (roomy-wide (s .pre)))
 
--- the start, from where the second, the fourth and the sixth bounds are read
-abbrev from1 : tie.After-struct-told4 → tie.Start
-from1 c = search
-
-abbrev from3 : tie.After-struct-told8 → tie.Start
-from3 c = search from1
-
-abbrev from5 : tie.After-struct-told12 → tie.Start
-from5 c = search from3
-
-returns : tie.Need-returns
-unfolding sums
-returns c = kept (search from5)
+narrow-requires : tie.Need-narrow-requires
+narrow-requires c κs = let s : tie.Start = search in rw (made c) (s .pre)
 
 pub sums-spec : {M : Type 1} → statement M
-unfolding sums
 sums-spec =
     tie.close
     (tie.spec
-    (λ c. made (search) .held0)
-    (λ c. made (search) .held1)
-    (λ c. made (search from1) .held2)
-    (λ c. made (search from1) .held3)
-    (λ c. made (search from3) .held4)
-    (λ c. made (search from3) .held5)
-    (λ c. made (search from5) .held6)
-    (λ c. made (search from5) .held7)
-    returns)
+    (λ c κs. tt)
+    (λ c κs. tt)
+    wide-sums-requires
+    narrow-requires
+    (λ c. c .narrow .ensures ∙ made (c .before)))

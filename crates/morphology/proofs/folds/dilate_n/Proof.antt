@@ -6,12 +6,13 @@ use lib.Dec.{ltb}
 use borrow.Author.Needs.{needs}
 use Rattle.integers.proofs.Range.{and-is}
 use Rattle.octagon.specs.NormalForm.{placed}
+use Rattle.octagon.proofs.Ranges.{roomy-held}
 use Rattle.morphology.specs.Marks.{marked}
 use Rattle.morphology.specs.Operations.{sums}
 use Rattle.morphology.specs.Folds.{fold-limit, dilation-n}
 use Rattle.morphology.proofs.Operands.{Accepted}
 use Rattle.morphology.proofs.Calls.{is-accepted, step-refused-marked, step-accepted, both-accepted, folds-refused, folds-taken}
-use Rattle.morphology.proofs.Widths.{multiples-held, sums-folded-held}
+use Rattle.morphology.proofs.Widths.{sums-folded-roomy, sums-folded-held}
 use Rattle.morphology.proofs.folds.dilate_n.Statement.{statement}
 use Rattle.morphology.proofs.folds.dilate_n.Tie as tie
 
@@ -46,13 +47,16 @@ unfolding dilation-n
 returns-3 c = search (folds-taken, step-accepted, step-refused-marked)
 
 -- two accepted operands
-multiples-requires : tie.Need-multiples-requires
-multiples-requires c κs = let t : tie.After-second = search in multiples-held (operands t) _ (few t)
-
-sums-requires : tie.Need-sums-requires
-sums-requires c κs =
+wide-sums-requires : tie.Need-wide-sums-requires
+wide-sums-requires c κs =
     let t : tie.After-second = search in
-    rw (c .multiples .ensures) (sums-folded-held (operands t) _ (few t))
+    rw (c .multiples .ensures, c .before .widen .ensures) (roomy-held (sums-folded-roomy (operands t) _ (few t)))
+
+place-wide-requires : tie.Need-place-wide-requires
+place-wide-requires c κs =
+    let t : tie.After-second = search in
+    let m = c .before in
+    rw (c .wide-sums .ensures, m .multiples .ensures, m .before .widen .ensures) (sums-folded-held (operands t) _ (few t))
 
 returns-4 : tie.Need-returns-4
 unfolding dilation-n
@@ -60,12 +64,13 @@ returns-4 c =
     let at-test = c .before in
     let at-place = at-test .before in
     let at-sums = at-place .before in
+    let at-multiples = at-sums .before in
     let t : tie.After-second = search in
     folds-taken _ _ (few t)
     (both-accepted _ (operands t)
     (c .new3 .ensures ∙
     ap₂ marked (and-is {a = ltb 0 (at-start t .args .n)} refl (at-test .are-opposed .ensures))
-    (at-place .place .ensures ∙ ap placed (at-sums .sums .ensures ∙ ap (sums _) (at-sums .before .multiples .ensures)))))
+    (at-place .place-wide .ensures ∙ ap placed (at-sums .wide-sums .ensures ∙ ap₂ sums (at-multiples .before .widen .ensures) (at-multiples .multiples .ensures)))))
 
 pub dilate-n-spec : {M : Type 1} → statement M
 dilate-n-spec =
@@ -82,9 +87,10 @@ dilate-n-spec =
     (λ c. search needs)
     (λ c κs. search needs)
     returns-3
-    multiples-requires
-    sums-requires
-    (λ c κs. search needs)
+    (λ c κs. tt)
+    (λ c κs. tt)
+    wide-sums-requires
+    place-wide-requires
     (λ c κs. search needs)
     (λ c κs. search needs)
     returns-4)

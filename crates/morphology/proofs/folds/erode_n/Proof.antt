@@ -1,13 +1,15 @@
 -- `erode_n` meets its contract: refusals in document 01's order, else the differences by n times the element's bounds. Assumes nothing.
-use mathlib.Core.Path.{_∙_, ap}
+use mathlib.Core.Path.{_≡_, _∙_, ap, ap₂}
 use Prim.Native.Nat.{_≤_}
 use borrow.Author.Needs.{needs}
 use Rattle.octagon.specs.NormalForm.{normalised}
+use Rattle.octagon.specs.Answers.{octagon-of}
+use Rattle.octagon.proofs.Ranges.{roomy-held}
 use Rattle.morphology.specs.Operations.{differences, fitting}
-use Rattle.morphology.specs.Folds.{fold-limit, erosion-n}
+use Rattle.morphology.specs.Folds.{fold-limit, multiples, erosion-n}
 use Rattle.morphology.proofs.Operands.{Accepted}
 use Rattle.morphology.proofs.Calls.{is-accepted, step-refused, step-accepted, both-accepted, folds-refused, folds-taken}
-use Rattle.morphology.proofs.Widths.{multiples-held, differences-folded-held}
+use Rattle.morphology.proofs.Widths.{differences-folded-roomy}
 use Rattle.morphology.proofs.folds.erode_n.Statement.{statement}
 use Rattle.morphology.proofs.folds.erode_n.Tie as tie
 
@@ -42,22 +44,27 @@ unfolding erosion-n
 returns-3 c = search (folds-taken, step-accepted, step-refused)
 
 -- two accepted operands
-multiples-requires : tie.Need-multiples-requires
-multiples-requires c κs = let t : tie.After-second = search in multiples-held (operands t) _ (few t)
-
-differences-requires : tie.Need-differences-requires
-differences-requires c κs =
+wide-differences-requires : tie.Need-wide-differences-requires
+wide-differences-requires c κs =
     let t : tie.After-second = search in
-    rw (c .multiples .ensures) (differences-folded-held (operands t) _ (few t))
+    rw (c .multiples .ensures, c .before .widen .ensures) (roomy-held (differences-folded-roomy (operands t) _ (few t)))
+
+-- the differences as they are computed
+differ : (c : tie.After-wide-differences) → let t : tie.After-second = search in
+    octagon-of (c .wide-differences .result) ≡ differences (at-first t .first .given .0 .0) (multiples (at-start t .args .n) (t .second .given .0 .0))
+differ c = let m = c .before in c .wide-differences .ensures ∙ ap₂ differences (m .before .widen .ensures) (m .multiples .ensures)
+
+fit-wide-requires : tie.Need-fit-wide-requires
+fit-wide-requires c κs =
+    let t : tie.After-second = search in
+    rw (differ c) (differences-folded-roomy (operands t) _ (few t))
 
 returns-4 : tie.Need-returns-4
 unfolding erosion-n
 returns-4 c =
-    let at-differences = c .before in
     let t : tie.After-second = search in
     folds-taken _ _ (few t)
-    (both-accepted _ (operands t)
-    (c .fit .ensures ∙ ap (λ o. fitting (normalised o)) (at-differences .differences .ensures ∙ ap (differences _) (at-differences .before .multiples .ensures))))
+    (both-accepted _ (operands t) (c .fit-wide .ensures ∙ ap (λ o. fitting (normalised o)) (differ (c .before))))
 
 pub erode-n-spec : {M : Type 1} → statement M
 erode-n-spec =
@@ -72,7 +79,8 @@ erode-n-spec =
     (λ c. search needs)
     (λ c. search needs)
     returns-3
-    multiples-requires
-    differences-requires
-    (λ c κs. search needs)
+    (λ c κs. tt)
+    (λ c κs. tt)
+    wide-differences-requires
+    fit-wide-requires
     returns-4)

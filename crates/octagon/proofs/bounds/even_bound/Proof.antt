@@ -1,4 +1,4 @@
--- `even_bound` meets its contract: each call gives what its contract says. Assumes nothing.
+-- `even_bound` meets its contract: the sums fit by what it requires, and each call gives what its contract says. Assumes nothing.
 use mathlib.Core.Path.{_∙_}
 use mir.Syntax.{w64}
 use Rattle.integers.proofs.Minimum.{min-is, half-is}
@@ -12,16 +12,12 @@ unfolding even-bound
 returns c =
     let r = c .before in
     let h = r .before in
-    let s3 = h .before in
-    let s2 = s3 .before in
-    let l = s2 .before in
-    let s1 = l .before in
+    let l = h .before in
     kept w64 (c .lesser3 .ok) ∙ c .lesser3 .ensures ∙
     min-is
-    (kept w64 (l .lesser .ok) ∙ l .lesser .ensures ∙ min-is (search signs depth 8) (kept w64 (s1 .sum .ok) ∙ s1 .sum .ensures ∙ search signs depth 8))
+    (kept w64 (l .lesser .ok) ∙ l .lesser .ensures ∙ min-is (search signs depth 8) (search signs depth 8))
     (kept w64 (r .lesser2 .ok) ∙ r .lesser2 .ensures ∙
-    min-is (kept w64 (s2 .sum2 .ok) ∙ s2 .sum2 .ensures ∙ search signs depth 8)
-    (kept w64 (h .half .ok) ∙ h .half .ensures ∙ half-is (kept w64 (s3 .sum3 .ok) ∙ s3 .sum3 .ensures ∙ search signs depth 8)))
+    min-is (search signs depth 8) (kept w64 (h .half .ok) ∙ h .half .ensures ∙ half-is (search signs depth 8)))
 
 pub even-bound-spec : {M : Type 1} → statement M
 even-bound-spec =
@@ -29,9 +25,8 @@ even-bound-spec =
     (tie.spec
     (λ c. search signs depth 8)
     (λ c κs. tt)
-    (λ c κs. tt)
-    (λ c κs. tt)
-    (λ c κs. tt)
+    (λ c. search signs depth 8)
+    (λ c. search signs depth 8)
     (λ c κs. tt)
     (λ c κs. tt)
     (λ c κs. tt)

@@ -1,19 +1,23 @@
 -- `tighten_even` meets its contract: four calls, and four bounds as they were. Assumes nothing.
-use mathlib.Core.Path.{_∙_, ap, refl}
-use mir.Syntax.{w32, w64}
-use Rattle.integers.proofs.Range.{signs, widened}
+use mathlib.Core.Path.{_≡_, _∙_, ap, sym}
+use mir.Syntax.{w64}
 use Rattle.octagon.specs.NormalForm.{tight-even}
-use Rattle.octagon.specs.Widths.{Held}
+use Rattle.octagon.specs.Answers.{octagon-of}
+use Rattle.octagon.specs.Widths.{Held, Roomy}
 use Rattle.octagon.proofs.Fields.{back, back-is, stored}
-use Rattle.octagon.proofs.Ranges.{roomy-held, roomy-even}
+use Rattle.octagon.proofs.Ranges.{roomy-held, roomy-less, roomy-even}
 use Rattle.octagon.proofs.bounds.tighten_even.Statement.{statement}
 use Rattle.octagon.proofs.bounds.tighten_even.Tie as tie
 
-held : (c : tie.Start) → Held w32 (c .args .o)
-held c = search signs
+same : (c : tie.Start) → back w64 (octagon-of (c .args .b)) ≡ octagon-of (c .args .b)
+same c = back-is w64 (octagon-of (c .args .b)) (roomy-held (c .pre))
 
-fits : (c : tie.Start) → Held w64 (tight-even (back w32 (c .args .o)))
-fits c = rw (back-is w32 (c .args .o) (held c)) (roomy-held (roomy-even (c .args .o) (held c)))
+-- the bounds as they are read back
+room : (c : tie.Start) → Roomy 1 (back w64 (octagon-of (c .args .b)))
+room c = rw (same c) (roomy-less (roomy-less (c .pre)))
+
+fits : (c : tie.Start) → Held w64 (tight-even (back w64 (octagon-of (c .args .b))))
+fits c = rw (same c) (roomy-held (roomy-even (octagon-of (c .args .b)) (c .pre)))
 
 returns : tie.Need-returns
 unfolding tight-even
@@ -22,20 +26,18 @@ returns c =
     let e1 = e2 .before in
     let e0 = e1 .before in
     let s = e0 .before .before .before .before .before .before .before .before .before in
+    let e = same s in
     stored w64 (fits s)
-    (e0 .even-bound .ensures) refl (e1 .even-bound2 .ensures) refl (e2 .even-bound3 .ensures) refl (c .even-bound4 .ensures) refl
-    ∙ ap tight-even (back-is w32 (s .args .o) (held s))
+    (e0 .even-bound .ensures) (ap (λ o. o .c1) (sym e)) (e1 .even-bound2 .ensures) (ap (λ o. o .c3) (sym e))
+    (e2 .even-bound3 .ensures) (ap (λ o. o .c5) (sym e)) (c .even-bound4 .ensures) (ap (λ o. o .c7) (sym e))
+    ∙ ap tight-even e
 
 pub tighten-even-spec : {M : Type 1} → statement M
 tighten-even-spec =
     tie.close
     (tie.spec
-    (λ c κs. tt)
-    (λ c. widened (held (c .before .before .before .before .before .before .before .before .before) .held1))
-    (λ c κs. tt)
-    (λ c. widened (held (c .before .before .before .before .before .before .before .before .before .before) .held3))
-    (λ c κs. tt)
-    (λ c. widened (held (c .before .before .before .before .before .before .before .before .before .before .before) .held5))
-    (λ c κs. tt)
-    (λ c. widened (held (c .before .before .before .before .before .before .before .before .before .before .before .before) .held7))
+    (λ c κs. let r = room (c .before .before .before .before .before .before .before .before) in (r .room6, (r .room7, (r .room1, r .room2))))
+    (λ c κs. let r = room (c .before .before .before .before .before .before .before .before .before) in (r .room0, (r .room1, (r .room3, r .room4))))
+    (λ c κs. let r = room (c .before .before .before .before .before .before .before .before .before .before) in (r .room2, (r .room3, (r .room5, r .room6))))
+    (λ c κs. let r = room (c .before .before .before .before .before .before .before .before .before .before .before) in (r .room4, (r .room5, (r .room7, r .room0))))
     returns)
