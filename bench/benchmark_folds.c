@@ -61,7 +61,7 @@ static void oppose(fold *f) {
     f->element[4 - k] = f->element[8 - k] = 0;
 }
 
-/* A plot with room for n folds of the element, but where the two are opposed; every eighth n is 0 or 1. */
+/* A plot with room for n folds of the element, but where the two are opposed. At one time in eight n is 0 or 1. */
 static fold draw_fold(void) {
     fold f;
     int32_t reach = drawn(1, REACH), n = drawn(0, 7) ? drawn(0, FOLDED_REACH / reach) : drawn(0, 1);
@@ -76,7 +76,7 @@ static fold draw_fold(void) {
     return f;
 }
 
-/* Takes LIMIT off one bound of every sixteenth operand, so that most of these have no cell. */
+/* At one time in sixteen takes LIMIT off one bound of an operand, so that mostly it has no cell. */
 static void spoil(int32_t c[8]) {
     if (!drawn(0, 15))
         c[drawn(0, 7)] -= LIMIT;

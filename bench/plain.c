@@ -1,4 +1,4 @@
-/* The calls on octagons of bindings/koxirmeta.h in plain C, by the same formulas. */
+/* The calls on octagons of bindings/koxirmeta.h in plain C, by the same formulas; plain_folds.c has the n-fold ones. */
 #include "plain_octagons.h"
 #include <string.h>
 

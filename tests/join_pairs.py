@@ -157,7 +157,7 @@ def lengths():
 def edges():
     """Such a plot alone in its sheet, or after another; the other sheet is of the other record length, and its plot lies near the middle."""
     for k, (size, far, before) in enumerate(itertools.product((24, 26), REACHING + LEAVING, ((), (43,)))):
-        yield pair("edge%d" % k, holding(size, far, *before), made(50 - size, b"", 50))
+        yield pair("edge%d" % k, holding(size, before, far), made(50 - size, b"", 50))
 
 
 # ---- the fullest sheets

@@ -123,14 +123,19 @@ class Cases(Words):
     def edges(self, size):
         for far in REACHING + LEAVING:
             for before in ((), (43,)):
-                data = holding(size, far, *before)
+                data = holding(size, before, far)
                 buffer = past(110, 0, data)
                 self.say_checked(buffer, len(data))
                 self.say_both(buffer, len(data), len(before))
                 self.show(buffer, len(data))
-                grown = self.tell_added(buffer, len(data), 50, plot(50))
-                self.say_digest(buffer)
-                self.show(buffer, grown)
+                self.tell_grown(buffer, len(data), 50, plot(50))
+            data = holding(size, (43,))
+            self.tell_grown(past(110, 0, data), len(data), *far)
+
+    def tell_grown(self, buffer, length, number, outline):
+        grown = self.tell_added(buffer, length, number, outline)
+        self.say_digest(buffer)
+        self.show(buffer, grown)
 
     # ---- fee rows, headings and limits
 

@@ -18,9 +18,8 @@ for plots, far in ((REACHING, 16000), (LEAVING, 16001)):
         assert reach(outline)[side] == far == max(reach(outline))
 
 
-def holding(size, far, *numbers):
-    """The sheet of the plots with these numbers and then such a plot, by 24 or by 26 bytes a record."""
-    number, outline = far
+def holding(size, numbers, *far):
+    """The sheet of the plots with these numbers and then of such plots, by 24 or by 26 bytes a record."""
     if size == 24:
-        return old_sheet(b"", *old_numbered(*numbers), (number, outline))
-    return sheet(b"", *numbered(*numbers), (number, outline, fee_row(number)))
+        return old_sheet(b"", *old_numbered(*numbers), *far)
+    return sheet(b"", *numbered(*numbers), *((number, outline, fee_row(number)) for number, outline in far))

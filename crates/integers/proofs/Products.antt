@@ -9,6 +9,7 @@ use mir.Val.{Fits, SFits}
 use Rattle.integers.proofs.Parts.{up, dn}
 use Rattle.integers.proofs.Range.{mag-parts}
 
+-- a product whose parts fit is in range
 product-mag : (n : ℕ) (a : ℤ) → n * up a < 2 ^ 63 → n * dn a ≤ 2 ^ 63 → mag (pos n *ℤ a) < 2 ^ 63
 unfolding up dn
 product-mag n (pos m) h k = h

@@ -1,5 +1,5 @@
 -- n trims and then n spreads, from the normal form of the element: the octagon that they hand back is what is left with n times the
--- element's bounds added. Assumes nothing.
+-- element's bounds added, and fits an i32. Assumes nothing.
 use mathlib.Core.Path.{_≡_, sym, _∙_, ap, ap₂}
 use Prim.Native.Nat.{ℕ}
 use mir.Syntax.{w32}

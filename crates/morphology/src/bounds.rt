@@ -95,7 +95,7 @@ pub fn fit_wide(d: Bounds) -> Answer
     left
 }
 
-// The sums of two octagons' bounds. The compiler works them out in 32 bits again, and so the three below.
+// The sums of two octagons' bounds.
 pub fn sums(a: Octagon, b: Octagon) -> Octagon
     requires { ⌜ Held w32 (operations.sums a b) ⌝ }
     ensures { λ r. ⌜ r ≡ operations.sums a b ⌝ }

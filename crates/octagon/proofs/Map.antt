@@ -1,5 +1,5 @@
--- The test that normalised bounds are on the map, in cells: also of bounds that any set of cells reaches, which leaves the map where the test
--- fails; and that bounds on the map fit an i32. Assumes nothing.
+-- The test that normalised bounds are within a square, and so on the map, in cells: also of bounds that any set of cells reaches, which
+-- leaves the square where the test fails; and that bounds on the map fit an i32. Assumes nothing.
 use mathlib.Core.Path.{_≡_, sym, _∙_}
 use mathlib.Core.Logic.{_↔_}
 use mathlib.Core.Bool.{true, false}

@@ -1,5 +1,6 @@
--- The normal form of eight bounds, its sides, and the answer of `normalise`: definitions that compute.
--- proofs/NormalForms.antt says what the answers mean in sets, proofs/Sides.antt what the sides tell. Assumes nothing.
+-- The normal form of eight bounds, its sides, whether it is within a square, and the answer of `normalise`: definitions that compute.
+-- proofs/NormalForms.antt says what the answers mean in sets, proofs/Map.antt the test of a square, proofs/Sides.antt what the sides tell.
+-- Assumes nothing.
 use mathlib.Core.Path.{_≡_}
 use mathlib.Core.Bool.{Bool, cond, _&&_}
 use Prim.Native.Nat.{ℕ}

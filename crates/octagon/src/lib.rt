@@ -72,18 +72,18 @@ pub fn normalise(o: Octagon) -> Answer
     bounds::normalise_bounds(bounds::widen(o))
 }
 
-// Whether a bound is at most a limit.
-fn at_most(c: i64, limit: u32) -> bool
-    ensures { λ r. ⌜ r ≡ leZ c (pos limit) ⌝ }
+// Whether a bound is at most r.
+fn at_most(c: i64, r: u32) -> bool
+    ensures { λ t. ⌜ t ≡ leZ c (pos r) ⌝ }
 {
-    c <= limit as i64
+    c <= r as i64
 }
 
-// Whether normalised bounds are within the square of cells with both coordinates from -limit to limit, by the even ones.
-fn are_within(limit: u32, c0: i64, c2: i64, c4: i64, c6: i64) -> bool
-    ensures { λ r. ⌜ r ≡ form.are-within limit c0 c2 c4 c6 ⌝ }
+// Whether normalised bounds are within the square of cells with both coordinates from -r to r, by the even ones.
+fn are_within(r: u32, c0: i64, c2: i64, c4: i64, c6: i64) -> bool
+    ensures { λ t. ⌜ t ≡ form.are-within r c0 c2 c4 c6 ⌝ }
 {
-    at_most(c0, limit) & at_most(c2, limit) & at_most(c4, limit) & at_most(c6, limit)
+    at_most(c0, r) & at_most(c2, r) & at_most(c4, r) & at_most(c6, r)
 }
 
 // Whether normalised bounds are on the map, by the even ones.
@@ -93,9 +93,9 @@ pub fn on_map(c0: i64, c2: i64, c4: i64, c6: i64) -> bool
     are_within(Octagon::LIMIT as u32, c0, c2, c4, c6)
 }
 
-// Whether an octagon, by its normalised bounds, is within the square of cells with both coordinates from -limit to limit.
-pub fn is_within(a: Octagon, limit: u32) -> bool
-    ensures { λ r. ⌜ r ≡ form.is-within limit a ⌝ }
+// Whether an octagon whose bounds are normalised is within the square of cells with both coordinates from -r to r.
+pub fn is_within(a: Octagon, r: u32) -> bool
+    ensures { λ t. ⌜ t ≡ form.is-within r a ⌝ }
 {
-    are_within(limit, a.c0 as i64, a.c2 as i64, a.c4 as i64, a.c6 as i64)
+    are_within(r, a.c0 as i64, a.c2 as i64, a.c4 as i64, a.c6 as i64)
 }

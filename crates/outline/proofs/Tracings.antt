@@ -84,16 +84,20 @@ module _ (r : ℕ) (l : r ≤ limit) (o : Outline) where
       go (is-open f) q = is-open-in f
       go (is-off k f) q = is-off-in k (record { x = f .x; y = f .y; cell = (f .cell .0, λ m. f .cell .1 (square-larger r limit l m)) })
 
-  -- accepted: the octagon of the outline, and every cell inside the walk is on the smaller map
-  pub in-means : (a : Octagon) → traced-in r o ≡ accepted a → (traced o ≡ accepted a) × NearTo r a × (InsideWalk o ⊆ Square r)
-  in-means a = go tracing-in
+  -- accepted: the octagon of the outline, with its even bounds at most r
+  pub in-near : (a : Octagon) → traced-in r o ≡ accepted a → (traced o ≡ accepted a) × NearTo r a
+  in-near a = go tracing-in
     where
-      go : {t : Outcome Octagon} → TracingIn r o t → t ≡ accepted a → (traced o ≡ accepted a) × NearTo r a × (InsideWalk o ⊆ Square r)
-      go (is-octagon-in b e m) q =
-          let f = accepted-same q in
-          (e ∙ ap accepted f, rw f at m, λ x y i. near-square r b m x y (accepted-means o b e .same-cells x y .1 i))
+      go : {t : Outcome Octagon} → TracingIn r o t → t ≡ accepted a → (traced o ≡ accepted a) × NearTo r a
+      go (is-octagon-in b e m) q = let f = accepted-same q in (e ∙ ap accepted f, rw f at m)
       go (is-open-in h) q = absurd (accepted-not-refused (sym q))
       go (is-off-in k h) q = absurd (accepted-not-refused (sym q))
+
+  -- so every cell inside the walk is on the smaller map
+  pub in-means : (a : Octagon) → traced-in r o ≡ accepted a → (traced o ≡ accepted a) × (InsideWalk o ⊆ Square r)
+  in-means a q =
+      let n = in-near a q in
+      (n .0, λ x y i. near-square r a (n .1) x y (accepted-means o a (n .0) .same-cells x y .1 i))
 
   -- and that is so wherever the outline closes and its cells are on the smaller map
   pub in-when : Closes o → InsideWalk o ⊆ Square r → (a : Octagon) × (traced-in r o ≡ accepted a)

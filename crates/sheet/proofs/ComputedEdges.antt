@@ -1,5 +1,5 @@
 -- Sheets of 24 and of 26 bytes a record that hold a plot whose farthest cell is 16,000 cells from the middle of the map, or 16,001, to the
--- east, the north, the west and the south: checked, fetched, inserted into and joined. antt computes them. The limit is written as a number
+-- east, the north, the west and the south: checked, fetched, inserted into and joined; and such a plot inserted. antt computes them. The limit is written as a number
 -- here, since no theorem on sheets can object to one that moves for every record length alike. Assumes nothing.
 use mathlib.Core.Path.{_≡_, refl}
 use mathlib.Core.List.{List, [], _∷_, _++_, map}
@@ -121,6 +121,15 @@ pub edges-after-insert : (map (λ s. after-insert (roomy s) (length s) added) (a
     × (map (λ s. after-insert (roomy s) (length s) added) (sheets leaving) ≡ map roomy (sheets leaving))
 unfolding written-over sheet-bytes records-bytes splice after-insert insertion admitted parsed inspected framed stated trailer-at plots-from surveyed judged layout-of decoded encoded trailer signed twos traced closes placed is-on-map drawn bounds-at vertex
 edges-after-insert = (refl, refl, refl)
+
+-- the far plot put into a sheet of the near one, of 24 and of 26, which has room for it
+abbrev into : ℕ → List Record → List (Outcome ℕ)
+into L rs = let s = records-bytes L (near ∷ []) in map (inserted (roomy s) (length s)) rs
+
+pub edges-put : (into 24 reaching ≡ replicate 4 (accepted 68)) × (into 26 reaching ≡ replicate 4 (accepted 68))
+    × (into 24 leaving ≡ replicate 4 (refused 2)) × (into 26 leaving ≡ replicate 4 (refused 2))
+unfolding records-bytes inserted insertion admitted parsed inspected framed stated trailer-at plots-from surveyed judged layout-of decoded encoded trailer signed twos traced closes placed is-on-map drawn bounds-at vertex
+edges-put = (refl, refl, refl, refl)
 
 -- ---- join
 

@@ -1,5 +1,6 @@
 // Sheets of 24 and of 26 bytes a record, written byte by byte, that hold a plot whose farthest cell is 16,000 cells from the middle of the
-// map, or 16,001, to the east, the north, the west and the south. A plot near the middle is put into each.
+// map, or 16,001, to the east, the north, the west and the south. A plot near the middle is put into each, and the far plot into a sheet of
+// one near the middle.
 use crate::answers::say_both;
 use crate::answers::say_checked;
 use crate::answers::show;
@@ -53,25 +54,37 @@ fn second(each: u8, number: u32, outline: Outline) {
     tell_calls(&mut sheet, bytes + 16, 1);
 }
 
-fn both(each: u8, number: u32, outline: Outline) {
+// The plot put into a sheet of the plot 43.
+fn put_in(each: u8, number: u32, outline: Outline) {
+    let mut sheet = [PAST; 110];
+    let size = each as u32;
+    put_record(&mut sheet, 0, each, 43, plot(43));
+    put_at(&mut sheet, each as usize, &trailer(size, 1, size));
+    let grown = tell_added(&mut sheet, each as usize + 16, number, outline);
+    say_digest(&sheet);
+    show(&sheet, grown);
+}
+
+fn each_way(each: u8, number: u32, outline: Outline) {
     alone(each, number, outline);
     second(each, number, outline);
+    put_in(each, number, outline);
 }
 
 // Up to 16,000 to the east, the north, the west and the south.
 fn reaching(each: u8) {
-    both(each, 70001, wide(15439, 211));
-    both(each, 80002, wide(-322, 14702));
-    both(each, 90003, wide(-15484, 433));
-    both(each, 100004, wide(544, -16000));
+    each_way(each, 70001, wide(15439, 211));
+    each_way(each, 80002, wide(-322, 14702));
+    each_way(each, 90003, wide(-15484, 433));
+    each_way(each, 100004, wide(544, -16000));
 }
 
 // Up to 16,001.
 fn leaving(each: u8) {
-    both(each, 110005, wide(15440, -655));
-    both(each, 120006, wide(766, 14703));
-    both(each, 130007, wide(-15485, -877));
-    both(each, 140008, wide(-988, -16001));
+    each_way(each, 110005, wide(15440, -655));
+    each_way(each, 120006, wide(766, 14703));
+    each_way(each, 130007, wide(-15485, -877));
+    each_way(each, 140008, wide(-988, -16001));
 }
 
 // The sheets of so many bytes a record, 24 or 26.

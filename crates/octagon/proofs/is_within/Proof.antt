@@ -18,7 +18,7 @@ returns c =
     let h = held s in
     c .are-within .ensures ∙
     rw (toZ-ofZ (widened (h .held0)), toZ-ofZ (widened (h .held2)), toZ-ofZ (widened (h .held4)), toZ-ofZ (widened (h .held6)))
-    (ap (is-within (s .args .limit)) (back-is w32 (s .args .a) h))
+    (ap (is-within (s .args .r)) (back-is w32 (s .args .a) h))
 
 pub is-within-spec : {M : Type 1} → statement M
 is-within-spec =

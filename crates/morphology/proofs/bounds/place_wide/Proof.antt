@@ -1,9 +1,8 @@
 -- `place_wide` meets its contract: the test's two answers. Assumes nothing.
-use mathlib.Core.Path.{_≡_, _∙_, sym, ap}
+use mathlib.Core.Path.{ap}
 use Rattle.integers.proofs.Range.{told}
-use Rattle.octagon.specs.NormalForm.{is-on-map, placed}
+use Rattle.octagon.specs.NormalForm.{placed}
 use Rattle.octagon.specs.Outcome.{accepted}
-use Rattle.octagon.specs.Answers.{octagon-of}
 use Rattle.morphology.proofs.bounds.place_wide.Statement.{statement}
 use Rattle.morphology.proofs.bounds.place_wide.Tie as tie
 

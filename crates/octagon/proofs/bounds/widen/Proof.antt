@@ -1,8 +1,7 @@
 -- `widen` meets its contract: each cast keeps a bound. Assumes nothing.
-use mathlib.Core.Path.{_≡_, _∙_}
+use mathlib.Core.Path.{_∙_}
 use mir.Syntax.{w32, w64}
-use Rattle.integers.proofs.Range.{signs, wide-fits}
-use Rattle.octagon.specs.declared.Octagon.{Octagon}
+use Rattle.integers.proofs.Range.{signs}
 use Rattle.octagon.specs.Widths.{Held}
 use Rattle.octagon.proofs.Fields.{back, back-is}
 use Rattle.octagon.proofs.Ranges.{roomy-wide, roomy-held}
