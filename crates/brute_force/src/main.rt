@@ -4,6 +4,8 @@
 // to 2.17 of source document 002 alone; no call of the library is made for it. A spread is expected to be filled where no octagon has just
 // the cells of its set, but the second of two to be exact where the first made a fold. As many folds as the limit has, or nearly, are not
 // enumerated (two_calls.rt). tests/brute_force.py works the output out by itself.
+#![tactic(auto)]
+
 mod answers;
 mod bench;
 mod both;

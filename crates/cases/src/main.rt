@@ -4,6 +4,8 @@
 // What is expected comes from the eight inequalities, the steps and the set definitions alone. A line has the answer, with its mark where
 // the call has one, then what the cells say, then whether the two agree. An octagon too large to enumerate has the answer alone; a split
 // has the answer, and whether it is what was worked out (splits.rt). tests/cases.py works the lines out on its own.
+#![tactic(auto)]
+
 mod beside;
 mod numbers;
 mod operands;

@@ -4,7 +4,7 @@ use crate::signed::{lifted, minus, plus};
 
 // A set: bit k is the cell k % 8 east and k / 8 north of the window's lowest left cell (x, y). The sets here are so small that sums of
 // their cells stay in a window.
-#[derive(Drop)]
+#[derive(Clone, Copy)]
 pub struct Set {
     pub bits: u64,
     pub x: u64,

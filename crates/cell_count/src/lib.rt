@@ -1,6 +1,8 @@
 // The number of cells of an octagon, in constant time: those of the rectangle round it, less those that its four diagonal sides cut off.
 //
 // specs/Count.antt has the count by a test over cells, specs/Area.antt the formula, proofs/Counted.antt the theorems between them.
+#![tactic(auto)]
+
 ghost use Rattle.std.specs.Prelude.{◌≡◌, ◌+◌, ◌*◌, ◌≤◌, pos, nat_abs, ◌+ℤ◌};
 ghost use Rattle.octagon.specs.Outcome.{accepted};
 ghost use Rattle.octagon.specs.Cells.{limit};
@@ -11,7 +13,7 @@ ghost use Rattle.cell_count.specs.Answers.{outcome};
 use octagon::{Answer, Octagon, normalise};
 
 // Document 01's cell count: the number of cells, or the number of the refusal.
-#[derive(Drop)]
+#[derive(Clone, Copy)]
 pub enum Count {
     Cells(u32),
     Refused(u32),

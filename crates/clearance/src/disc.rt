@@ -8,7 +8,7 @@ ghost use Rattle.clearance.specs.Clearing as clearing;
 use octagon::{Octagon, on_map};
 
 // The bounds along the axes, in 64 bits: wide enough for any centre.
-#[derive(Drop)]
+#[derive(Clone, Copy)]
 pub struct Axes {
     pub c0: i64,
     pub c2: i64,

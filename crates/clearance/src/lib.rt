@@ -2,6 +2,8 @@
 //
 // specs/Disc.antt has those cells by their squares, specs/Clearing.antt what `around` answers, and specs/Cases.antt the same in words;
 // proofs/Discs.antt and Cases.antt have the theorems.
+#![tactic(auto)]
+
 ghost use Rattle.std.specs.Prelude.{◌≡◌};
 ghost use Rattle.octagon.specs.Answers.{outcome};
 ghost use Rattle.clearance.specs.Clearing.{cleared};
@@ -13,7 +15,7 @@ mod slants;
 mod table;
 
 // Document 02's tree: a centre cell, and a radius in whole cells. Every value is allowed.
-#[derive(Drop)]
+#[derive(Clone, Copy)]
 pub struct Tree {
     pub x: i32,
     pub y: i32,

@@ -2,7 +2,7 @@
 use crate::signed::{LIFT, lifted, minus, plus};
 use octagon::Octagon;
 
-#[derive(Drop)]
+#[derive(Clone, Copy)]
 pub struct Bounds {
     pub c0: u64,
     pub c1: u64,

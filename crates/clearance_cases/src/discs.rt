@@ -12,7 +12,7 @@ const SIZE: u32 = WIDTH * WIDTH;
 const MIDDLE: u32 = 257;
 
 // How many cells there are, and the bounds that they reach.
-#[derive(Drop)]
+#[derive(Clone, Copy)]
 pub struct Disc {
     pub cells: u32,
     pub reached: Bounds,

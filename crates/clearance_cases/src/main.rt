@@ -3,6 +3,8 @@
 // What is expected comes from document 02's distance by squares, document 01's eight inequalities and the map's limit alone: no root, no
 // table, and no call of the library but `magnitude`. A line has the tree, the answer, what the cells or the radius say, and whether the two
 // agree. tests/clearances.py works the lines out on its own.
+#![tactic(auto)]
+
 mod beside;
 mod bounds;
 mod discs;

@@ -73,6 +73,7 @@ module _ (r : Outline) where
   all_after (c ∷ cs) e = all_after cs (after c.pair e)
 
   reached : (cs : List PairCase) {t : Triangles} → FitsAmong r cs → Below t (minima r) → in_turn cs r t ≡ minima r
+  reached [] n l = elim n [ ]
   reached (c ∷ cs) (here f) l = all_after cs (assign_fitting c.pair f l)
   reached (c ∷ cs) (later m) l = reached cs m (before c.pair l)
 
@@ -96,6 +97,7 @@ pub found : {p q : ℕ} (c : Pair p q) (r : Outline) (f : CaseFits c r) → tria
 found c r f = found_minima r c f ∙ sym (fit_minima c r f)
 
 one_of : (r : Outline) (cs : List PairCase) → FitsAmong r cs → FitsSome r
+one_of r [] n = elim n [ ]
 one_of r (c ∷ cs) (here f) = record { case = c; fit = f }
 one_of r (c ∷ cs) (later m) = one_of r cs m
 

@@ -13,7 +13,8 @@ use Rattle.decomposition.specs.Pieces.{DilatedByEach}
 each_same : {A C : Cells} (ks : List ℕ) (ps : List Outline) → A ≐ C → DilatedByEach ks ps A ≐ DilatedByEach ks ps C
 each_same [] ps e = e
 each_same (k ∷ ks) [] e = e
-each_same (k ∷ ks) (p ∷ ps) e = each_same ks ps (dilated_times_same k e (same_refl (InsideWalk p)))
+each_same {A = A} {C = C} (k ∷ ks) (p ∷ ps) e =
+    each_same {A = DilatedTimes k A (InsideWalk p)} {C = DilatedTimes k C (InsideWalk p)} ks ps (dilated_times_same k e (same_refl (InsideWalk p)))
 
 -- ---- the order of two sets is free
 

@@ -1,6 +1,6 @@
 -- What the rows of an outline leave of it: some case fits this rest, and counts of two kinds that make it are those that are found. Assumes
 -- nothing.
-use mathlib.Core.Path.{◌≡◌, ◌∙◌, sym}
+use mathlib.Core.Path.{◌≡◌, ◌∙◌, sym, subst}
 use Prim.Native.Nat.{ℕ, ◌+◌, min}
 use native.Mathlib.Omega.{arith}
 use Rattle.integers.proofs.Between.{if_any}
@@ -113,7 +113,7 @@ module _ (o r : Outline) (k : Counts) (l : RestOf o r) (h : Rows o k) (s : SameS
   alone = equal_triangles _ _ (two_kinds_alone k w.pair w.no_others)
 
   pub alone_made : MakeUp (of_kinds w.p (count_of_kind k w.p) w.q (count_of_kind k w.q)) r
-  alone_made = rw alone at (triangles_made o r k l h s)
+  alone_made = subst (λ t. MakeUp t r) alone (triangles_made o r k l h s)
 
   unfoldable pub two_kinds_fit : CaseFits w.pair r
   two_kinds_fit = made_fits w.pair r _ _ alone_made

@@ -3,6 +3,8 @@
 // `outline::tables` has the table of the pieces, specs/Pieces.antt the set that counted pieces make, specs/Rule.antt document 01's rule
 // for the counts, specs/Pairs.antt the eight cases of source document 000, specs/Splitting.antt what `decompose` answers,
 // specs/Meaning.antt what that means, proofs/Decompositions.antt, proofs/ByCases.antt and proofs/Exchange.antt the theorems.
+#![tactic(auto)]
+
 ghost use Rattle.std.specs.Prelude.{◌≡◌};
 ghost use Rattle.decomposition.specs.Pieces as pieces;
 ghost use Rattle.decomposition.specs.Splitting as splitting;
@@ -15,14 +17,14 @@ mod counting;
 mod pairing;
 
 // The cell from which the pieces spread: document 01's start.
-#[derive(Drop)]
+#[derive(Clone, Copy)]
 pub struct Start {
     pub i: i32,
     pub j: i32,
 }
 
 // How many there are of each piece.
-#[derive(Drop)]
+#[derive(Clone, Copy)]
 pub struct Counts {
     pub k1: u32,
     pub k2: u32,
@@ -40,14 +42,14 @@ pub struct Counts {
 }
 
 // Document 01's split.
-#[derive(Drop)]
+#[derive(Clone, Copy)]
 pub struct Split {
     pub start: Start,
     pub counts: Counts,
 }
 
 // A split, or the number of the refusal.
-#[derive(Drop)]
+#[derive(Clone, Copy)]
 pub enum Decomposed {
     Split(Split),
     Refused(u32),

@@ -5,7 +5,7 @@ ghost use Rattle.decomposition.specs.Pairs as pairs;
 use outline::Outline;
 
 // How many there are of the pieces K5 to K12.
-#[derive(Drop)]
+#[derive(Clone, Copy)]
 pub struct Triangles {
     pub k5: u32,
     pub k6: u32,

@@ -1,5 +1,7 @@
 // Every exported function, called on slices of the right and of wrong lengths, accepted and refused: the number that it answers, and the
 // memory that it was lent, as it is afterwards. tests/exports.py works the expected output out on its own.
+#![tactic(auto)]
+
 mod clearances;
 mod joins;
 mod octagons;

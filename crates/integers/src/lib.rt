@@ -1,5 +1,7 @@
 // The operations that signed code shares: exact sums, multiples and magnitudes, the lesser and the greater of two
 // numbers, and half of one rounded down.
+#![tactic(auto)]
+
 ghost use Rattle.std.specs.Prelude.{◌≡◌, pos, nat_abs, ◌+ℤ◌, ◌*ℤ◌};
 ghost use Rattle.integers.specs.Minimum.{min_ℤ, max_ℤ, half_ℤ};
 

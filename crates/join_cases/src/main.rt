@@ -5,6 +5,8 @@
 // made, and the calls. A buffer is the index of its new bytes, how many these are, how many of all its bytes are lent, and the new bytes;
 // the others are as they were. A call is how many bytes the third buffer has, which of the two are joined, and the lengths of the two
 // sheets. Byte k of the third buffer is k % 251 before the call.
+#![tactic(auto)]
+
 use input::{lesser, next, next_name, read_buffer};
 use sheet::Written;
 

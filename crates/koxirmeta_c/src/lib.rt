@@ -7,6 +7,8 @@
 // What is read from a slice of the wrong length is a stand-in, and so is what is worked out from it. The answer for a tape, which may
 // have any length, or a tree, which is three numbers, is handed over in the same way. A call that reads an outline, and one that lends a list
 // on, test their slices first.
+#![tactic(auto)]
+
 pub mod clearances;
 mod codes;
 mod octagons;

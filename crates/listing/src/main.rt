@@ -1,4 +1,6 @@
 // Reads a sheet from standard input, and writes its listing to standard output and a failure to standard error.
+#![tactic(auto)]
+
 use libc::{STDERR_FILENO, STDIN_FILENO, STDOUT_FILENO};
 
 fn main() {

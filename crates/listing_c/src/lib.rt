@@ -1,4 +1,6 @@
 // The listing of a sheet for C and Rust, beside the calls of koxirmeta_c: a crate of its own, and so compiled apart from them.
+#![tactic(auto)]
+
 ghost use Rattle.octagon.specs.Outcome.{accepted};
 ghost use Rattle.report.specs.Listing.{listing};
 ghost use Rattle.koxirmeta_c.specs.Calls.{Hands};

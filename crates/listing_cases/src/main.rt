@@ -1,6 +1,8 @@
 // Two inputs on standard input, listed one after the other: a sheet of 65,536 bytes and one byte more, which fill the room for an input
 // and are refused, and then a sheet of 65,536 bytes up to the end. tests/sheets.py makes both, and works the expected output out on its
 // own.
+#![tactic(auto)]
+
 use libc::{STDERR_FILENO, STDIN_FILENO, STDOUT_FILENO};
 
 fn main() {

@@ -9,7 +9,7 @@ use crate::transfer::{TRIES, Transfer, read_some};
 pub const ROOM: usize = sheet::LIMIT + 1;
 
 // How many bytes were read, or that a read failed.
-#[derive(Drop)]
+#[derive(Clone, Copy)]
 pub enum Input {
     Length(usize),
     Failed,

@@ -2,6 +2,8 @@
 //
 // Where the input cannot be read to its end nothing is listed. That, and a listing that cannot be written, is told by one line on
 // a third descriptor; if that fails too, nothing more can be done.
+#![tactic(auto)]
+
 use input::Input;
 
 mod input;

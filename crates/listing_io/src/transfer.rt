@@ -5,7 +5,7 @@ ghost use Rattle.std.specs.Prelude.{◌≡◌, ◌≤◌, length};
 ghost use Rattle.listing_io.specs.Transfers.{bytes_moved, told};
 
 // What a call did: it moved so many bytes; a signal interrupted it before it moved one; or it failed.
-#[derive(Drop)]
+#[derive(Clone, Copy)]
 pub enum Transfer {
     Bytes(usize),
     Interrupted,

@@ -4,6 +4,8 @@
 // Folds.antt have the answers, specs/Marks.antt their marks, specs/Sets.antt the operations on sets, and specs/Cases.antt which answer is
 // given where. The theorems between them are in proofs/Dilations, Erosions, Openings and Closings, and the laws of demand 3 in
 // proofs/Laws.
+#![tactic(auto)]
+
 ghost use Rattle.std.specs.Prelude.{◌≡◌};
 ghost use Rattle.std.specs.Int.{w32};
 ghost use Rattle.octagon.specs.Answers.{outcome};
@@ -23,7 +25,7 @@ use rows::are_opposed;
 
 // What a call that spreads answers: an octagon that has exactly the cells of the set definition; the smallest octagon that holds them,
 // where opposed diagonal rows were dilated, and of a closing just them; or the number of the refusal.
-#[derive(Drop)]
+#[derive(Clone, Copy)]
 pub enum Spread {
     Exact(Octagon),
     Filled(Octagon),

@@ -1,5 +1,4 @@
 -- Bounds are normalised exactly where the eight side lengths of document 01 are nought or more; and the sides of any bounds close. Assumes nothing.
-use mathlib.Core.Path.{◌≡◌}
 use mathlib.Core.Logic.{◌↔◌}
 use native.Mathlib.Omega.{arith}
 use lib.IntN.{ℤ, pos, ◌+ℤ◌}

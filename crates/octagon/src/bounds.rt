@@ -10,7 +10,7 @@ ghost use Rattle.octagon.specs.Widths.{Held, Roomy};
 use crate::{Answer, NO_CELL, OFF_MAP, Octagon, on_map};
 use integers::{half, lesser};
 
-#[derive(Drop)]
+#[derive(Clone, Copy)]
 pub struct Bounds {
     pub c0: i64,
     pub c1: i64,

@@ -2,6 +2,8 @@
 //
 // The cells of an octagon are those with -y <= c0, x-y <= c1, x <= c2, x+y <= c3, y <= c4, -x+y <= c5, -x <= c6, -x-y <= c7.
 // specs/Cells.antt has the sets, specs/NormalForm.antt what `normalise` answers, proofs/NormalForms.antt the theorems between them.
+#![tactic(auto)]
+
 ghost use Rattle.std.specs.Prelude.{◌≡◌, pos};
 ghost use Rattle.std.specs.Int.Signed.{le_z};
 ghost use Rattle.octagon.specs.NormalForm as form;
@@ -10,7 +12,7 @@ ghost use Rattle.octagon.specs.Answers.{outcome};
 pub mod bounds;
 
 // Document 01's plot, frame or clearance: eight bounds, every value allowed.
-#[derive(Drop)]
+#[derive(Clone, Copy)]
 pub struct Octagon {
     pub c0: i32,
     pub c1: i32,
@@ -23,7 +25,7 @@ pub struct Octagon {
 }
 
 // An octagon, or the number of the refusal.
-#[derive(Drop)]
+#[derive(Clone, Copy)]
 pub enum Answer {
     Octagon(Octagon),
     Refused(u32),

@@ -4,6 +4,8 @@
 // it; specs/Tracing.antt, Outlining.antt and Places.antt what the three calls answer, specs/Meaning.antt what that means;
 // proofs/Tracings.antt, OneCell.antt, Vertices.antt, RoundTrips.antt and Metres.antt the theorems between them. comparing.rt and
 // specs/Sameness.antt tell whether two outlines are one.
+#![tactic(auto)]
+
 ghost use Rattle.std.specs.Prelude.{◌≡◌};
 ghost use Rattle.octagon.specs.Answers.{outcome as octagon_outcome};
 ghost use Rattle.outline.specs.Tracing.{traced};
@@ -23,7 +25,7 @@ pub mod tables;
 mod walk;
 
 // Document 01's outline: the start, its lowest corner and of the lowest the leftmost, and eight side lengths, counter-clockwise.
-#[derive(Drop)]
+#[derive(Clone, Copy)]
 pub struct Outline {
     pub i: i32,
     pub j: i32,
@@ -38,14 +40,14 @@ pub struct Outline {
 }
 
 // An outline, or the number of the refusal.
-#[derive(Drop)]
+#[derive(Clone, Copy)]
 pub enum Outlined {
     Outline(Outline),
     Refused(u32),
 }
 
 // A place, or the number of the refusal.
-#[derive(Drop)]
+#[derive(Clone, Copy)]
 pub enum Located {
     Place(Place),
     Refused(u32),

@@ -8,7 +8,7 @@ use crate::Outline;
 use crate::tables::STEPS;
 
 // Document 01's cell.
-#[derive(Drop)]
+#[derive(Clone, Copy)]
 pub struct Cell {
     pub x: i64,
     pub y: i64,

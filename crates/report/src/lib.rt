@@ -2,6 +2,8 @@
 //
 // specs/Decimal.antt has numbers as text, specs/Lines.antt the lines, specs/Listing.antt the whole listing, specs/ReadBack.antt what its
 // text says when it is read back; proofs/Decimals.antt and proofs/ReadBacks.antt show that it says so.
+#![tactic(auto)]
+
 ghost use Rattle.std.specs.Prelude.{◌≡◌, length};
 ghost use Rattle.records.specs.Parts.{splice};
 ghost use Rattle.report.specs.Lines.{Prefix};

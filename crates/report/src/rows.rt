@@ -12,7 +12,7 @@ use outline::Outline;
 use sheet::Fetched;
 
 // The index past rows that were put, and how many cells the plots have together.
-#[derive(Drop)]
+#[derive(Clone, Copy)]
 pub struct Rows {
     pub next: usize,
     pub cells: u64,

@@ -11,7 +11,7 @@ use native.Mathlib.Omega.{arith}
 use lib.ListN.{length}
 use lib.Dec.{ltb, eqb}
 use borrow.Author.Tests.{eqb-true, eq-eqb, not-true, not-false}
-use Rattle.integers.proofs.Tests.{cases, true_is_not_false, both_true, and_true, or-false}
+use Rattle.integers.proofs.Tests.{cases, true_is_not_false, both_true, and_true, or_false}
 use Rattle.octagon.specs.Outcome.{accepted}
 use Rattle.outline.specs.Sameness.{same_outline}
 use Rattle.outline.proofs.Sameness.{same_outline_is, same_outline_self}
@@ -111,7 +111,7 @@ contradicted_found r (t ∷ ts) h =
 contradicted_none : (r : Record) (ts : List Record) → contradicted r ts ≡ false → (t : Record) → Among t ts → r.number ≡ t.number → r ≡ t
 contradicted_none r [] h t m e = absurd (not_among_nil t m)
 contradicted_none r (a ∷ ts) h t m e =
-    let f = or-false (differ r a) (contradicted r ts) h in go f.0 (contradicted_none r ts f.1 t) ((among_cons t a ts).0 m)
+    let f = or_false (differ r a) (contradicted r ts) h in go f.0 (contradicted_none r ts f.1 t) ((among_cons t a ts).0 m)
   where
     go : differ r a ≡ false → (Among t ts → r.number ≡ t.number → r ≡ t) → (t ≡ a) ⊎ Among t ts → r ≡ t
     go d i (inl q) = differ_not r a d (e ∙ ap (λ (c : Record). c.number) q) ∙ sym q
@@ -131,7 +131,7 @@ pub conflict_none : (rs ts : List Record) → conflict rs ts ≡ false → Agree
 unfolding conflict
 conflict_none [] ts h a t m = absurd (not_among_nil a m)
 conflict_none (r ∷ rs) ts h a t m =
-    let f = or-false (contradicted r ts) (conflict rs ts) h in go (contradicted_none r ts f.0) (conflict_none rs ts f.1) ((among_cons a r rs).0 m)
+    let f = or_false (contradicted r ts) (conflict rs ts) h in go (contradicted_none r ts f.0) (conflict_none rs ts f.1) ((among_cons a r rs).0 m)
   where
     go : ((t : Record) → Among t ts → r.number ≡ t.number → r ≡ t) → Agree rs ts → (a ≡ r) ⊎ Among a rs → Among t ts → a.number ≡ t.number → a ≡ t
     go f i (inl q) n e = q ∙ f t n (sym (ap (λ (c : Record). c.number) q) ∙ e)

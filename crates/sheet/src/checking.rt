@@ -12,7 +12,7 @@ use crate::{BAD_NUMBER, TRAILER};
 use octagon::Answer;
 
 // The plot number of a record, or the number of the refusal.
-#[derive(Drop)]
+#[derive(Clone, Copy)]
 enum Judged {
     Number(u32),
     Refused(u32),

@@ -5,6 +5,8 @@
 // and `read` answer, specs/Cases.antt when each of these answers is given; specs/Writing.antt what `start` and `insert` answer and
 // leave, specs/WritingCases.antt when each of their answers is given; specs/Merging.antt the records of two sheets together,
 // specs/Joining.antt what `join` answers and leaves, specs/JoiningCases.antt when each of its answers is given.
+#![tactic(auto)]
+
 ghost use Rattle.std.specs.Prelude.{◌≡◌};
 ghost use Rattle.sheet.specs.Answers.{count_outcome, record_outcome, length_outcome};
 ghost use Rattle.sheet.specs.Checking.{checked, fetched, read as «Read-of»};
@@ -27,7 +29,7 @@ mod signed;
 mod trailer;
 
 // A plot: its number, its outline, and its row in the tariff of fees.
-#[derive(Drop)]
+#[derive(Clone, Copy)]
 pub struct Record {
     pub number: u32,
     pub outline: Outline,
@@ -35,21 +37,21 @@ pub struct Record {
 }
 
 // How many records a sheet has, or the number of the refusal.
-#[derive(Drop)]
+#[derive(Clone, Copy)]
 pub enum Checked {
     Count(u32),
     Refused(u32),
 }
 
 // A record of a sheet, or the number of the refusal.
-#[derive(Drop)]
+#[derive(Clone, Copy)]
 pub enum Fetched {
     Record(Record),
     Refused(u32),
 }
 
 // The length of a sheet that was written, or the number of the refusal.
-#[derive(Drop)]
+#[derive(Clone, Copy)]
 pub enum Written {
     Length(usize),
     Refused(u32),

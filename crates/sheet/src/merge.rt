@@ -14,7 +14,7 @@ use crate::trailer::Trailer;
 use crate::{Checked, RECORD, TRAILER, TWO_RECORDS};
 
 // Records of a sheet, one after the other: where the first stands, how many there are, and the length of each in bytes.
-#[derive(Drop)]
+#[derive(Clone, Copy)]
 pub struct Rows {
     pub at: usize,
     pub count: usize,

@@ -10,7 +10,7 @@ use crate::numbers::{pack, unpack};
 use crate::{BAD_DISTANCE, BAD_LENGTH, BAD_TRAILER, LIMIT, TRAILER};
 
 // The numbers in a trailer: its records' distance in bytes, their count and the length of each, zero bytes, letters.
-#[derive(Drop)]
+#[derive(Clone, Copy)]
 pub struct Trailer {
     pub distance: u32,
     pub count: u32,
@@ -20,7 +20,7 @@ pub struct Trailer {
 }
 
 // The trailer of a sheet, or the number of the refusal.
-#[derive(Drop)]
+#[derive(Clone, Copy)]
 pub enum Framed {
     Trailer(Trailer),
     Refused(u32),

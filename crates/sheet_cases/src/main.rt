@@ -1,5 +1,7 @@
 // Sheets made in memory by `start` and `insert`, or byte by byte, spoilt and grown, and what each call answers. tests/sheet_cases.py works
 // the expected output out on its own.
+#![tactic(auto)]
+
 use answers::show;
 use making::{NARROW, WIDE, example, tell_written};
 

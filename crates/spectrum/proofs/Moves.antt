@@ -4,7 +4,7 @@ use mathlib.Core.Path.{◌≡◌, refl, ◌∙◌, ap}
 use mathlib.Core.Logic.{◌↔◌}
 use Prim.Native.Nat.{ℕ}
 use native.Mathlib.Omega.{arith}
-use lib.IntN.{ℤ, pos, neg_ℤ, ◌+ℤ◌, ◌-ℤ◌, nat_abs, +ℤ_neg_ℤ_cancel, -ℤ-+ℤ_cancel}
+use lib.IntN.{ℤ, pos, neg_ℤ, ◌+ℤ◌, ◌-ℤ◌, nat_abs, +ℤ-neg_ℤ_cancel, -ℤ-+ℤ_cancel}
 use Rattle.integers.proofs.Linear.{#, ◌⊕◌, neg, lit, ◌≈◌, same}
 use Rattle.octagon.specs.declared.Octagon.{Octagon}
 use Rattle.octagon.specs.Cells.{Cells, ◌≐◌, Empty, Smallest}
@@ -44,14 +44,14 @@ module _ (u v : ℤ) (A : Cells) where
 
       from : Dilated A (OneCell u v) x y → Moved u v A x y
       from d =
-          rw (← d.sum_x, ← d.sum_y, d.of_b.0, d.of_b.1, +ℤ_neg_ℤ_cancel d.ax u, +ℤ_neg_ℤ_cancel d.ay v) d.of_a
+          rw (← d.sum_x, ← d.sum_y, d.of_b.0, d.of_b.1, +ℤ-neg_ℤ_cancel d.ax u, +ℤ-neg_ℤ_cancel d.ay v) d.of_a
 
   -- and it is eroding by the opposite cell
   moved_eroded : Moved u v A ≐ Eroded A (OneCell (neg_ℤ u) (neg_ℤ v))
   moved_eroded x y = (λ a s t h. rw (h.0, h.1) a, λ e. e (neg_ℤ u) (neg_ℤ v) (refl, refl))
 
   pub moved_empty : Empty (Moved u v A) ↔ Empty A
-  moved_empty = (λ h x y a. h (x +ℤ u) (y +ℤ v) (rw (+ℤ_neg_ℤ_cancel x u, +ℤ_neg_ℤ_cancel y v) a), λ h x y. h (x -ℤ u) (y -ℤ v))
+  moved_empty = (λ h x y a. h (x +ℤ u) (y +ℤ v) (rw (+ℤ-neg_ℤ_cancel x u, +ℤ-neg_ℤ_cancel y v) a), λ h x y. h (x -ℤ u) (y -ℤ v))
 
 -- where C is A moved, what n trims leave of C is what they leave of A, moved; and so is what n folds open
 module _ (u v : ℤ) (A B : Cells) {C : Cells} (m : C ≐ Moved u v A) (n : ℕ) where

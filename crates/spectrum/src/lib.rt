@@ -3,6 +3,8 @@
 // Entry n is the number of cells that are lost between the plot opened by n folds of the frame and by n + 1: n trims and then n spreads,
 // since the frame folded n times may leave the map though nothing is wrong. specs/Spectra.antt has the answer, specs/Walks.antt the walk,
 // specs/Cases.antt what both mean in sets; the theorems between them are in proofs/Cases, Ends, Losses, Lists and MovedPlots.
+#![tactic(auto)]
+
 ghost use Rattle.std.specs.Prelude.{◌≡◌, ◌≤◌, length};
 ghost use Rattle.octagon.specs.Answers as octagons;
 ghost use Rattle.octagon.specs.Outcome.{accepted};
@@ -20,7 +22,7 @@ use octagon::{Answer, Octagon, normalise};
 
 // How a spectrum ended, with the number of trims that were made, which is the number of entries written: finished, where nothing is left;
 // spent, where the list is full and a further entry was due; or the number of the refusal.
-#[derive(Drop)]
+#[derive(Clone, Copy)]
 pub enum Spectrum {
     Finished(usize),
     Spent(usize),

@@ -27,7 +27,7 @@ fn digest(answer: Spectrum) -> u64 {
 }
 
 // Two numbers made of the places of a list.
-#[derive(Drop)]
+#[derive(Clone, Copy)]
 struct Sums {
     digest: u64,
     total: u64,

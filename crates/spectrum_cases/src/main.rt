@@ -1,5 +1,7 @@
 // Pattern spectra of chosen and of drawn plots by frames, in lists of many lengths, and what is then in each list. tests/spectra.py works
 // the expected output out on its own.
+#![tactic(auto)]
+
 use calls::{mixed, tell};
 use draws::after;
 

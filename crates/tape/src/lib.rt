@@ -2,6 +2,8 @@
 //
 // specs/Snapping.antt has the cell of a coordinate, specs/Hull.antt the hull of octagons, specs/Enclosing.antt what `enclose` answers, and
 // specs/Cases.antt the same in words; proofs/Coordinates.antt, Cases.antt, Orders.antt and Corners.antt have the theorems.
+#![tactic(auto)]
+
 ghost use Rattle.std.specs.Prelude.{◌≡◌, ◌+◌, ◌-◌, ◌%◌, ◌<◌, ◌≤◌, length, drop};
 ghost use Rattle.octagon.specs.Answers.{outcome};
 ghost use Rattle.tape.specs.Enclosing.{enclosed, gathered, points, place_at, point_cell};

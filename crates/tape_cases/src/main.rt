@@ -3,6 +3,8 @@
 //
 // The input is words of eight bytes: how many blocks there are; then for each block its name, how many of its answers are written,
 // how many tapes it has, and the tapes; and for each tape how many numbers it has, and their bits.
+#![tactic(auto)]
+
 use input::{next, next_name, read_tape};
 use octagon::Answer;
 
