@@ -1,4 +1,4 @@
-// The slant reach of each radius, as fixed numbers, one in a line.
+// The slant reach of each radius, as fixed numbers.
 
 // Document 02's table: for each radius r from 0 to 255 the s with s × s at most 2 × r × r and (s + 1) × (s + 1) above it. What `slant_reach`
 // hands over to `entry` is tested by that rule throughout.
