@@ -2,8 +2,10 @@
 use crate::bounds;
 use crate::bounds::Bounds;
 use crate::signed::{LIFT, lifted};
-use libc::STDOUT_FILENO;
 use octagon::Answer;
+
+// The descriptor of standard output.
+const STDOUT_FILENO: i32 = 1;
 
 pub fn text(bytes: &[u8]) {
     io::write_all(STDOUT_FILENO, bytes);

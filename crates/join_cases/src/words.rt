@@ -1,6 +1,8 @@
 // Answers, bytes and digests on standard output.
-use libc::STDOUT_FILENO;
 use sheet::Written;
+
+// The descriptor of standard output.
+const STDOUT_FILENO: i32 = 1;
 
 // The most bytes of a buffer that are written one by one.
 const SHOWN: usize = 512;

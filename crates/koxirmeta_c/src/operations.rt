@@ -13,8 +13,7 @@ use morphology::{closing, dilate, erode, opening};
 use octagon::normalise;
 
 // The normal form of eight bounds.
-#[unsafe(no_mangle)]
-pub extern "C" fn kx_normalise(bounds: &[i32], out: &mut [i32]) -> u32
+pub fn kx_normalise(bounds: &[i32], out: &mut [i32]) -> u32
     ensures { calls.Hands (calls.on_one normalised bounds.now out.old) calls.bounds_of out.old out.new result }
 {
     give(normalise(octagon_in(bounds)), bounds.len() == 8, out)
@@ -37,16 +36,14 @@ fn give_cells(c: Count, fits: bool, cells: &mut u32) -> u32
 }
 
 // The number of cells within eight bounds.
-#[unsafe(no_mangle)]
-pub extern "C" fn kx_count(bounds: &[i32], cells: &mut u32) -> u32
+pub fn kx_count(bounds: &[i32], cells: &mut u32) -> u32
     ensures { calls.Hands (calls.counted bounds.now) (λ n. n) cells.old cells.new result }
 {
     give_cells(count_cells(octagon_in(bounds)), bounds.len() == 8, cells)
 }
 
 // The dilation of a plot by an element (document 01's spread), and its mark.
-#[unsafe(no_mangle)]
-pub extern "C" fn kx_dilate(plot: &[i32], element: &[i32], out: &mut [i32], mark: &mut u32) -> u32
+pub fn kx_dilate(plot: &[i32], element: &[i32], out: &mut [i32], mark: &mut u32) -> u32
     ensures { calls.Hands (calls.on_two dilation plot.now element.now out.old) calls.marked_parts (out.old, mark.old) (out.new, mark.new) result }
 {
     give_marked(
@@ -58,8 +55,7 @@ pub extern "C" fn kx_dilate(plot: &[i32], element: &[i32], out: &mut [i32], mark
 }
 
 // The erosion of a plot by an element (document 01's trim).
-#[unsafe(no_mangle)]
-pub extern "C" fn kx_erode(plot: &[i32], element: &[i32], out: &mut [i32]) -> u32
+pub fn kx_erode(plot: &[i32], element: &[i32], out: &mut [i32]) -> u32
     ensures { calls.Hands (calls.on_two erosion plot.now element.now out.old) calls.bounds_of out.old out.new result }
 {
     give(
@@ -70,8 +66,7 @@ pub extern "C" fn kx_erode(plot: &[i32], element: &[i32], out: &mut [i32]) -> u3
 }
 
 // The opening of a plot by an element, and its mark.
-#[unsafe(no_mangle)]
-pub extern "C" fn kx_opening(plot: &[i32], element: &[i32], out: &mut [i32], mark: &mut u32) -> u32
+pub fn kx_opening(plot: &[i32], element: &[i32], out: &mut [i32], mark: &mut u32) -> u32
     ensures { calls.Hands (calls.on_two opened plot.now element.now out.old) calls.marked_parts (out.old, mark.old) (out.new, mark.new) result }
 {
     give_marked(
@@ -83,8 +78,7 @@ pub extern "C" fn kx_opening(plot: &[i32], element: &[i32], out: &mut [i32], mar
 }
 
 // The closing of a plot by an element, and its mark.
-#[unsafe(no_mangle)]
-pub extern "C" fn kx_closing(plot: &[i32], element: &[i32], out: &mut [i32], mark: &mut u32) -> u32
+pub fn kx_closing(plot: &[i32], element: &[i32], out: &mut [i32], mark: &mut u32) -> u32
     ensures { calls.Hands (calls.on_two closed plot.now element.now out.old) calls.marked_parts (out.old, mark.old) (out.new, mark.new) result }
 {
     give_marked(
@@ -96,8 +90,7 @@ pub extern "C" fn kx_closing(plot: &[i32], element: &[i32], out: &mut [i32], mar
 }
 
 // The n-fold dilation of a plot by an element, and its mark.
-#[unsafe(no_mangle)]
-pub extern "C" fn kx_dilate_n(
+pub fn kx_dilate_n(
     plot: &[i32],
     element: &[i32],
     n: u32,
@@ -115,8 +108,7 @@ pub extern "C" fn kx_dilate_n(
 }
 
 // The n-fold erosion of a plot by an element.
-#[unsafe(no_mangle)]
-pub extern "C" fn kx_erode_n(plot: &[i32], element: &[i32], n: u32, out: &mut [i32]) -> u32
+pub fn kx_erode_n(plot: &[i32], element: &[i32], n: u32, out: &mut [i32]) -> u32
     ensures { calls.Hands (calls.on_two (λ p f. erosion_n p f n) plot.now element.now out.old) calls.bounds_of out.old out.new result }
 {
     give(

@@ -12,8 +12,7 @@ use outline::place::Place;
 use outline::{Located, Outlined, to_octagon, to_outline, vertex_place};
 
 // The octagon of an outline.
-#[unsafe(no_mangle)]
-pub extern "C" fn kx_to_octagon(start: &[i32], sides: &[u32], out: &mut [i32]) -> u32
+pub fn kx_to_octagon(start: &[i32], sides: &[u32], out: &mut [i32]) -> u32
     ensures { calls.Hands (outlines.tracing start.now sides.now out.old) calls.bounds_of out.old out.new result }
 {
     if (start.len() == 2) & (sides.len() == 8) {
@@ -39,8 +38,7 @@ fn give_outline(t: Outlined, fits: bool, start: &mut [i32], sides: &mut [u32]) -
 }
 
 // The outline of eight bounds.
-#[unsafe(no_mangle)]
-pub extern "C" fn kx_to_outline(bounds: &[i32], start: &mut [i32], sides: &mut [u32]) -> u32
+pub fn kx_to_outline(bounds: &[i32], start: &mut [i32], sides: &mut [u32]) -> u32
     ensures { calls.Hands (outlines.outlining bounds.now start.old sides.old) outlines.outline_parts (start.old, sides.old) (start.new, sides.new) result }
 {
     give_outline(
@@ -77,8 +75,7 @@ fn give_place(l: Located, fits: bool, place: &mut [f64]) -> u32
 }
 
 // Vertex k of eight bounds in metres, east and north.
-#[unsafe(no_mangle)]
-pub extern "C" fn kx_vertex_place(bounds: &[i32], k: u32, place: &mut [f64]) -> u32
+pub fn kx_vertex_place(bounds: &[i32], k: u32, place: &mut [f64]) -> u32
     ensures { calls.Hands (outlines.locating bounds.now k place.old) outlines.metres_of place.old place.new result }
 {
     give_place(

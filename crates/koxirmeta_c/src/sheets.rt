@@ -26,8 +26,7 @@ fn give_count(c: Checked, count: &mut u32) -> u32
 }
 
 // How many records the sheet in the first `len` bytes has.
-#[unsafe(no_mangle)]
-pub extern "C" fn kx_sheet_check(sheet: &[u8], len: usize, count: &mut u32) -> u32
+pub fn kx_sheet_check(sheet: &[u8], len: usize, count: &mut u32) -> u32
     ensures { calls.Hands (checked sheet.now len) (λ n. n) count.old count.new result }
 {
     give_count(sheet::check(sheet, len), count)
@@ -59,8 +58,7 @@ fn give_record(
 }
 
 // Record k, counted from 0.
-#[unsafe(no_mangle)]
-pub extern "C" fn kx_sheet_fetch(
+pub fn kx_sheet_fetch(
     sheet: &[u8],
     len: usize,
     k: u32,
@@ -75,8 +73,7 @@ pub extern "C" fn kx_sheet_fetch(
 }
 
 // Record k of a sheet that was checked: what `kx_sheet_fetch` answers, with no check of the records.
-#[unsafe(no_mangle)]
-pub extern "C" fn kx_sheet_read(
+pub fn kx_sheet_read(
     sheet: &[u8],
     len: usize,
     k: u32,
@@ -104,16 +101,14 @@ fn give_length(w: Written, len: &mut usize) -> u32
 }
 
 // Starts a sheet of no records after `heading` bytes.
-#[unsafe(no_mangle)]
-pub extern "C" fn kx_sheet_start(sheet: &mut [u8], heading: usize, len: &mut usize) -> u32
+pub fn kx_sheet_start(sheet: &mut [u8], heading: usize, len: &mut usize) -> u32
     ensures { calls.Hands (started sheet.old heading) (λ n. n) len.old len.new result × (sheet.new ≡ after_start sheet.old heading) }
 {
     give_length(sheet::start(sheet, heading), len)
 }
 
 // Inserts a plot by its number.
-#[unsafe(no_mangle)]
-pub extern "C" fn kx_sheet_insert(
+pub fn kx_sheet_insert(
     sheet: &mut [u8],
     len: usize,
     number: u32,
@@ -137,8 +132,7 @@ pub extern "C" fn kx_sheet_insert(
 }
 
 // Joins two sheets in a third buffer.
-#[unsafe(no_mangle)]
-pub extern "C" fn kx_sheet_join(
+pub fn kx_sheet_join(
     first: &[u8],
     first_len: usize,
     second: &[u8],
@@ -147,7 +141,7 @@ pub extern "C" fn kx_sheet_join(
     len: &mut usize,
 ) -> u32
     ensures hands { calls.Hands (joins.joined first.now first_len second.now second_len joined.old) (λ n. n) len.old len.new result × (joined.new ≡ joins.after_join first.now first_len second.now second_len joined.old) }
-    ensures first_value { (first.now ≡ first.now) × (second.now ≡ second.now) }
+    ensures only_read { (first.exit.now ≡ first.entry.now) × (second.exit.now ≡ second.entry.now) }
 {
     give_length(
         sheet::join(first, first_len, second, second_len, joined),

@@ -33,8 +33,7 @@ fn give_ending(s: Spectrum, trims: &mut usize, ending: &mut u32) -> u32
 }
 
 // The cells that are lost from each number of folds of the frame to the next, from the first place of the list on.
-#[unsafe(no_mangle)]
-pub extern "C" fn kx_spectrum(
+pub fn kx_spectrum(
     plot: &[i32],
     frame: &[i32],
     list: &mut [u32],

@@ -6,8 +6,7 @@ use crate::octagons::give;
 use tape::enclose;
 
 // The smallest octagon that holds the cell of each point of a tape: metres, east and north in turn.
-#[unsafe(no_mangle)]
-pub extern "C" fn kx_enclose(tape: &[f64], out: &mut [i32]) -> u32
+pub fn kx_enclose(tape: &[f64], out: &mut [i32]) -> u32
     ensures { calls.Hands (tapes.enclosing tape.now out.old) calls.bounds_of out.old out.new result }
 {
     give(enclose(tape), true, out)

@@ -1,8 +1,6 @@
 // Reads a sheet from standard input, and writes its listing to standard output and a failure to standard error.
 #![tactic(auto)]
 
-use libc::{STDERR_FILENO, STDIN_FILENO, STDOUT_FILENO};
-
-fn main() {
-    listing_io::list_sheet(STDIN_FILENO, STDOUT_FILENO, STDERR_FILENO);
+fn main(rt: HostRuntime) {
+    listing_io::list_sheet(&mut rt.stdin(), &mut rt.stdout(), &mut rt.stderr());
 }

@@ -1,4 +1,5 @@
-// The listing of a sheet for C and Rust, beside the calls of koxirmeta_c: a crate of its own, and so compiled apart from them.
+// The listing of a sheet for C and Rust, beside the calls of koxirmeta_c: a crate of its own, and so compiled apart
+// from them. The crate listing_c_c exports it.
 #![tactic(auto)]
 
 ghost use Rattle.octagon.specs.Outcome.{accepted};
@@ -10,8 +11,7 @@ use koxirmeta_c::ACCEPTED;
 use report::TEXT;
 
 // The listing of the sheet in the first `len` bytes: the text of a refused sheet is one line, and is handed over as any other.
-#[unsafe(no_mangle)]
-pub extern "C" fn kx_list(
+pub fn kx_list(
     sheet: &[u8],
     len: usize,
     text: &mut [u8; TEXT],

@@ -3,9 +3,7 @@
 // own.
 #![tactic(auto)]
 
-use libc::{STDERR_FILENO, STDIN_FILENO, STDOUT_FILENO};
-
-fn main() {
-    listing_io::list_sheet(STDIN_FILENO, STDOUT_FILENO, STDERR_FILENO);
-    listing_io::list_sheet(STDIN_FILENO, STDOUT_FILENO, STDERR_FILENO);
+fn main(rt: HostRuntime) {
+    listing_io::list_sheet(&mut rt.stdin(), &mut rt.stdout(), &mut rt.stderr());
+    listing_io::list_sheet(&mut rt.stdin(), &mut rt.stdout(), &mut rt.stderr());
 }

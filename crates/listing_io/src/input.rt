@@ -4,6 +4,7 @@ ghost use Rattle.sheet.specs.Sheets.{sheet_limit};
 ghost use Rattle.listing_io.specs.Transfers.{bytes_read};
 
 use crate::transfer::{TRIES, Transfer, read_some};
+use std::io::Read;
 
 // One byte more than the longest sheet: a longer input fills such a buffer, and is refused.
 pub const ROOM: usize = sheet::LIMIT + 1;
@@ -16,13 +17,13 @@ pub enum Input {
 }
 
 // Reads until the input ends or the buffer is full. It ends: each turn leaves less of the buffer or fewer tries.
-fn read_all(fd: i32, buffer: &mut [u8]) -> Input
+fn read_all<R: Read>(from: &mut R, buffer: &mut [u8]) -> Input
     ensures { bytes_read result ≤ length buffer.new }
 {
     let mut done = 0;
     let mut tries = TRIES;
     while done < buffer.len() {
-        match read_some(fd, &mut buffer[done..]) {
+        match read_some(from, &mut buffer[done..]) {
             Transfer::Bytes(n) => {
                 if n == 0 {
                     return Input::Length(done);
@@ -44,8 +45,8 @@ fn read_all(fd: i32, buffer: &mut [u8]) -> Input
 }
 
 // Reads an input that may be a sheet. The buffer has one byte more than the longest sheet.
-pub fn read_sheet(fd: i32, buffer: &mut [u8; ROOM]) -> Input
+pub fn read_sheet<R: Read>(from: &mut R, buffer: &mut [u8; ROOM]) -> Input
     ensures { (length buffer.new ≡ sheet_limit + 1) × (bytes_read result ≤ sheet_limit + 1) }
 {
-    read_all(fd, buffer)
+    read_all(from, buffer)
 }

@@ -1,22 +1,23 @@
-// A sheet read from one descriptor, and its listing, the proved text of `report::list`, written to another.
+// A sheet read from a reader, and its listing, the proved text of `report::list`, written to a writer.
 //
 // Where the input cannot be read to its end nothing is listed. That, and a listing that cannot be written, is told by one line on
-// a third descriptor; if that fails too, nothing more can be done.
+// a second writer; if that fails too, nothing more can be done.
 #![tactic(auto)]
 
 use input::Input;
+use std::io::{Read, Write};
 
 mod input;
 mod output;
 mod transfer;
 
 // Writes one line on what failed.
-fn complain(failures: i32, line: &[u8]) {
+fn complain<E: Write>(failures: &mut E, line: &[u8]) {
     output::write_all(failures, line);
 }
 
 // Writes the listing of the sheet in the first `len` bytes.
-fn write_listing(sheet: &[u8], len: usize, to: i32, failures: i32) {
+fn write_listing<W: Write, E: Write>(sheet: &[u8], len: usize, to: &mut W, failures: &mut E) {
     let mut text = [0u8; report::TEXT];
     let n = report::list(sheet, len, &mut text);
     if !output::write_all(to, &text[..n]) {
@@ -24,8 +25,8 @@ fn write_listing(sheet: &[u8], len: usize, to: i32, failures: i32) {
     }
 }
 
-// Reads a sheet from one descriptor, writes its listing to the second, and a failure to the third.
-pub fn list_sheet(from: i32, to: i32, failures: i32) {
+// Reads a sheet from a reader, writes its listing to a writer, and a failure to a second one. No byte after the sheet's room is read.
+pub fn list_sheet<R: Read, W: Write, E: Write>(from: &mut R, to: &mut W, failures: &mut E) {
     let mut sheet = [0u8; input::ROOM];
     match input::read_sheet(from, &mut sheet) {
         Input::Length(len) => write_listing(&sheet, len, to, failures),

@@ -26,7 +26,7 @@ use Rattle.outline.specs.declared.place.Place.{Place}
 use Rattle.outline.specs.Walk.{vertex}
 use Rattle.outline.specs.Outlining.{outlined}
 use Rattle.outline.specs.Meaning.{InMetres}
-use Rattle.outline.specs.Places.{Exactly, HeldCell, over, place_of, no_vertex, place_of_vertex, located, quarter}
+use Rattle.outline.specs.Places.{Exactly, HeldCell, place_of, no_vertex, place_of_vertex, located, quarter}
 use Rattle.outline.proofs.Tracings as tracings
 use Rattle.outline.proofs.Vertices.{vertices}
 use Rattle.outline.proofs.RoundTrips.{outline_octagon, outlined_refusals}

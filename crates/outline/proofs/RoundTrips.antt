@@ -3,8 +3,8 @@ use mathlib.Core.Path.{◌≡◌, sym, ◌∙◌, ap}
 use mathlib.Core.Logic.{◌↔◌}
 use Prim.Native.Nat.{ℕ}
 use native.Mathlib.Omega.{arith}
-use lib.IntN.{ℤ, pos, nat_abs}
-use Rattle.integers.proofs.Parts.{up, dn, diff_parts, neg_up, neg_dn, parts_eq}
+use lib.IntN.{ℤ, nat_abs}
+use Rattle.integers.proofs.Parts.{diff_parts, neg_up, neg_dn, parts_eq}
 use Rattle.integers.proofs.Linear.{#, ◌⊕◌, neg, lit, ◌≼◌, ◌≈◌, natural}
 use Rattle.octagon.specs.declared.Octagon.{Octagon}
 use Rattle.octagon.specs.Outcome.{Outcome, accepted, refused}

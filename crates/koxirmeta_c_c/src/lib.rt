@@ -1,0 +1,11 @@
+// The exports of koxirmeta_c for C and Rust: each calls the function of its name there, under the same clauses. A crate is a library or
+// a static library, and koxirmeta_c is the library.
+#![tactic(auto)]
+
+mod clearances;
+mod operations;
+mod outlines;
+mod sheets;
+mod spectra;
+mod splits;
+mod tapes;
