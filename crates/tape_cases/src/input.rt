@@ -1,7 +1,8 @@
 // Standard input: words of eight bytes, the lowest first, and tapes of such words. After its end every byte is 0.
 ghost use Rattle.std.specs.Prelude.{◌≤◌, length};
 
-use libc::STDIN_FILENO;
+// The descriptor of standard input.
+const STDIN_FILENO: i32 = 0;
 
 // The next word as eight letters.
 pub fn next_name() -> [u8; 8] {

@@ -1,7 +1,9 @@
 // Answers and digests, each on a line of standard output after the name of its block.
 use integers::magnitude;
-use libc::STDOUT_FILENO;
 use octagon::{Answer, Octagon};
+
+// The descriptor of standard output.
+const STDOUT_FILENO: i32 = 1;
 
 // Writes bytes.
 fn say(bytes: &[u8]) {

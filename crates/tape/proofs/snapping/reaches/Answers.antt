@@ -7,40 +7,36 @@ use lib.Ieee.{le, of_bits}
 use mir.Syntax.{w32}
 use mir.Val.{SFits}
 use mir.Facts.{to_z-of_z}
-use borrow.Author.Rules.{rules}
 use Rattle.integers.proofs.Parts.{up, dn, sum_parts, le_parts}
 use Rattle.integers.proofs.Range.{near_fits}
 use Rattle.octagon.specs.Cells.{limit}
 use Rattle.outline.proofs.Over.{over_mul}
 use Rattle.tape.proofs.Between.{Close, edge_fits}
-use Rattle.tape.proofs.snapping.reaches.Statement.{statement}
-use Rattle.tape.proofs.snapping.reaches.Tie as tie
+use Rattle.tape.proofs.snapping.reaches.Goals.{Start}
+use Rattle.tape.proofs.snapping.reaches.Goals as goal
 
-close : (c : tie.Start) → Close c.args.n
+close : (c : Start) → Close c.args.n
 unfolding up dn
 close c = let l = le_parts c.requires.0 in let h = le_parts c.requires.1 in record { over = omega arith; under = omega arith }
 
-twice : (c : tie.Start) → SFits w32 (c.args.n +ℤ c.args.n)
+twice : (c : Start) → SFits w32 (c.args.n +ℤ c.args.n)
 twice c =
     let n = c.args.n in
     let k = close c in
     let sum = sum_parts n n in
     near_fits w32 (limit + limit + 2) (n +ℤ n) (omega arith) (omega (arith, k.under)) (omega (arith, k.over))
 
-less : (c : tie.Start) → SFits w32 ((c.args.n +ℤ c.args.n) -ℤ pos 1)
+less : (c : Start) → SFits w32 ((c.args.n +ℤ c.args.n) -ℤ pos 1)
 less c = record { sfits = edge_fits c.args.n (close c) }
 
-add-result : tie.Need-overflow-add-result
-add-result c = simp (to_z-of_z c.ranges.n) (twice c)
+pub overflow_add-result : goal.overflow_add-result
+overflow_add-result c = simp (to_z-of_z c.ranges.n) (twice c)
 
-sub-result : tie.Need-overflow-sub-result
-sub-result c = simp (to_z-of_z c.ranges.n, to_z-of_z (twice c)) (less c)
+pub overflow_sub-result : goal.overflow_sub-result
+overflow_sub-result c = simp (to_z-of_z c.ranges.n, to_z-of_z (twice c)) (less c)
 
-returns : tie.Need-returns
+pub returns : goal.returns
 unfolding of_bits
 returns c =
-    let s = c.before in
+    let s = (goal.at.returns c).Start in
     simp (to_z-of_z s.ranges.n, to_z-of_z (twice s), to_z-of_z (less s)) (ap (λ f. le f s.args.e) (over_mul ((s.args.n +ℤ s.args.n) -ℤ pos 1) 2 (less s).sfits))
-
-pub reaches-spec : {M : Type 1} → statement M
-reaches-spec = tie.close (tie.spec add-result sub-result (λ c. search rules) returns)
