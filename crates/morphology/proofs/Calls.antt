@@ -7,6 +7,7 @@ use Rattle.octagon.specs.declared.Octagon.{Octagon}
 use Rattle.octagon.specs.declared.Answer.{Answer}
 use Rattle.octagon.specs.declared.Answer.TheVariants.{Octagon as Holds, Refused}
 use Rattle.octagon.specs.Outcome.{Outcome, accepted, refused, then}
+use Rattle.octagon.specs.NormalForm.{normalised}
 use Rattle.octagon.specs.Answers.{outcome}
 use Rattle.morphology.specs.declared.Spread.{Spread}
 use Rattle.morphology.specs.Marks.{Marked, spread_outcome, marked, unmarked}
@@ -50,6 +51,10 @@ first_accepted {o = o} g h q e d = step_accepted (λ a. then (g a) h) q e d ∙ 
 -- two operands that are both accepted: the answer x is that of the call on their normal forms
 pub both_accepted : {R : Type 0} {p f a b : Octagon} {x : Outcome R} (g : Octagon → Octagon → Outcome R) → Accepted p f a b → x ≡ g a b → x ≡ with_both p f g
 both_accepted g h d = rw (h.of_p, h.of_f) d
+
+-- two operands that were normalised and accepted, taken apart
+pub operands : {p f a b : Octagon} {q r : Answer} → outcome q ≡ normalised p → q ≡ Holds a → outcome r ≡ normalised f → r ≡ Holds b → Accepted p f a b
+operands m d n e = record { of_p = is_accepted m d; of_f = is_accepted n e }
 
 -- too many folds, and few enough
 pub folds_refused : {R : Type 0} (n : ℕ) (o : Outcome R) → fold_limit < n → refused too_many_folds ≡ within_folds n o
