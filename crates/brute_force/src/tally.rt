@@ -2,7 +2,9 @@
 ghost use Rattle.std.specs.Prelude.{◌<◌};
 
 use crate::bench::{Bench, EXPECTED, MARK, NUMBER, PAIR, get};
-use libc::STDOUT_FILENO;
+
+// The descriptor of standard output.
+const STDOUT_FILENO: i32 = 1;
 
 pub const NORMALISE: usize = 0;
 

@@ -3,9 +3,11 @@ use crate::sets;
 use crate::sets::Set;
 use crate::signed::{LIFT, lifted};
 use cell_count::Count;
-use libc::STDOUT_FILENO;
 use morphology::Spread;
 use octagon::{Answer, Octagon};
+
+// The descriptor of standard output.
+const STDOUT_FILENO: i32 = 1;
 
 pub fn text(bytes: &[u8]) {
     io::write_all(STDOUT_FILENO, bytes);

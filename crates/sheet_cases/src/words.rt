@@ -1,6 +1,8 @@
 // Words, numbers and digests on standard output.
 use integers::magnitude;
-use libc::STDOUT_FILENO;
+
+// The descriptor of standard output.
+const STDOUT_FILENO: i32 = 1;
 
 // Writes bytes.
 pub fn say(bytes: &[u8]) {

@@ -1,8 +1,10 @@
 // Calls, lists and digests on standard output.
 use integers::magnitude;
-use libc::STDOUT_FILENO;
 use octagon::Octagon;
 use spectrum::Spectrum;
+
+// The descriptor of standard output.
+const STDOUT_FILENO: i32 = 1;
 
 // The most places of a list that are written.
 const MOST: usize = 24;
