@@ -1,6 +1,8 @@
 // What a call answered, and the memory that it was lent, on standard output: a line for each call.
 use integers::magnitude;
-use libc::STDOUT_FILENO;
+
+// The descriptor of standard output.
+const STDOUT_FILENO: i32 = 1;
 
 pub fn text(bytes: &[u8]) {
     io::write_all(STDOUT_FILENO, bytes);

@@ -9,7 +9,7 @@
 
 ghost use Rattle.std.specs.Prelude.{◌≡◌};
 ghost use Rattle.sheet.specs.Answers.{count_outcome, record_outcome, length_outcome};
-ghost use Rattle.sheet.specs.Checking.{checked, fetched, read as «Read-of»};
+ghost use Rattle.sheet.specs.Checking.{checked, fetched, read as read_of};
 ghost use Rattle.sheet.specs.Writing.{started, after_start, inserted, after_insert};
 ghost use Rattle.sheet.specs.Joining.{joined, after_join};
 
@@ -109,7 +109,7 @@ pub fn fetch(sheet: &[u8], len: usize, k: u32) -> Fetched
 // trailer, a wrong distance, then a k that is not below the count. It reads the trailer by itself, so that `frame` has one caller, the
 // check, and is compiled into it.
 pub fn read(sheet: &[u8], len: usize, k: u32) -> Fetched
-    ensures { record_outcome result ≡ «Read-of» sheet.now len k }
+    ensures { record_outcome result ≡ read_of sheet.now len k }
 {
     if trailer::is_bad_length(sheet, len) {
         return Fetched::Refused(BAD_LENGTH);
@@ -167,7 +167,7 @@ pub fn join(
     third: &mut [u8],
 ) -> Written
     ensures result_value { (length_outcome result ≡ joined first.now first_len second.now second_len third.old) × (third.new ≡ after_join first.now first_len second.now second_len third.old) }
-    ensures first_value { (first.now ≡ first.now) × (second.now ≡ second.now) }
+    ensures only_read { (first.exit.now ≡ first.entry.now) × (second.exit.now ≡ second.entry.now) }
 {
     match checking::inspect(first, first_len) {
         Framed::Refused(e) => Written::Refused(e),
