@@ -90,13 +90,7 @@ pub fn kx_closing(plot: &[i32], element: &[i32], out: &mut [i32], mark: &mut u32
 }
 
 // The n-fold dilation of a plot by an element, and its mark.
-pub fn kx_dilate_n(
-    plot: &[i32],
-    element: &[i32],
-    n: u32,
-    out: &mut [i32],
-    mark: &mut u32,
-) -> u32
+pub fn kx_dilate_n(plot: &[i32], element: &[i32], n: u32, out: &mut [i32], mark: &mut u32) -> u32
     ensures { calls.Hands (calls.on_two (λ p f. dilation_n p f n) plot.now element.now out.old) calls.marked_parts (out.old, mark.old) (out.new, mark.new) result }
 {
     give_marked(

@@ -11,12 +11,7 @@ use koxirmeta_c::ACCEPTED;
 use report::TEXT;
 
 // The listing of the sheet in the first `len` bytes: the text of a refused sheet is one line, and is handed over as any other.
-pub fn kx_list(
-    sheet: &[u8],
-    len: usize,
-    text: &mut [u8; TEXT],
-    written: &mut usize,
-) -> u32
+pub fn kx_list(sheet: &[u8], len: usize, text: &mut [u8; TEXT], written: &mut usize) -> u32
     ensures { Hands (accepted (listing sheet.now len)) (laid text.old) (text.old, written.old) (text.new, written.new) result }
 {
     *written = report::list(sheet, len, text);

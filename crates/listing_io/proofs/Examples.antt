@@ -2,10 +2,16 @@
 use mathlib.Core.Path.{◌≡◌, refl}
 use mathlib.Core.Bool.{true, false}
 use mathlib.Core.List.{[], ◌∷◌, map}
-use lib.IntN.{pos, negsuc}
+use Rattle.std.specs.Prelude.{ℕ, ◌-◌, ◌^◌, pos, negsuc, Ok, Err}
 use Rattle.listing_io.specs.declared.input.Input.TheVariants as input
 use Rattle.listing_io.specs.declared.transfer.Transfer.TheVariants.{Bytes, Interrupted, Failed}
-use Rattle.listing_io.specs.Transfers.{told, bytes_moved, bytes_read}
+use Rattle.listing_io.specs.Transfers.{answer_of, told, bytes_moved, bytes_read}
+
+-- no byte, a count, the greatest answer, a count that is greater still, and a failure
+pub answers :
+    answer_of {E = ℕ} (Ok 0) ∷ answer_of {E = ℕ} (Ok 3) ∷ answer_of {E = ℕ} (Ok (2 ^ 63 - 1)) ∷ answer_of {E = ℕ} (Ok (2 ^ 63)) ∷ answer_of {E = ℕ} (Err 3) ∷ []
+    ≡ pos 0 ∷ pos 3 ∷ pos (2 ^ 63 - 1) ∷ pos (2 ^ 63 - 1) ∷ negsuc 0 ∷ []
+answers = refl
 
 -- -1, and any other negative answer, on a buffer of five bytes: a signal interrupted the call, or it failed
 pub negative_answers :

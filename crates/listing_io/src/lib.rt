@@ -25,7 +25,8 @@ fn write_listing<W: Write, E: Write>(sheet: &[u8], len: usize, to: &mut W, failu
     }
 }
 
-// Reads a sheet from a reader, writes its listing to a writer, and a failure to a second one. No byte after the sheet's room is read.
+// Reads a sheet from a reader, writes its listing to a writer, and a failure to a second one. It asks for one byte more than the longest
+// sheet has and no more, so what comes after such an input is still to be read.
 pub fn list_sheet<R: Read, W: Write, E: Write>(from: &mut R, to: &mut W, failures: &mut E) {
     let mut sheet = [0u8; input::ROOM];
     match input::read_sheet(from, &mut sheet) {

@@ -55,5 +55,5 @@ records_end_to_end {L} h z at e (more {r = r} {rs = rs} l m) =
     let e₁ : part (h ++ (r ++ end_to_end rs ++ z)) at L ≡ r = rw (drop_at h (r ++ end_to_end rs ++ z) at e, append_assoc) (take_at r (end_to_end rs ++ z) L l) in
     let e₂ : h ++ (end_to_end (r ∷ rs) ++ z) ≡ (h ++ r) ++ (end_to_end rs ++ z) = simp append_assoc in
     let rest : records L (h ++ (end_to_end (r ∷ rs) ++ z)) (at + L) (length rs) ≡ rs =
-        subst (λ (x : List ℕ). records L x (at + L) (length rs) ≡ rs) (sym e₂) (records_end_to_end (h ++ r) z (at + L) (length-append h r ∙ omega arith) m) in
+    subst (λ (x : List ℕ). records L x (at + L) (length rs) ≡ rs) (sym e₂) (records_end_to_end (h ++ r) z (at + L) (length-append h r ∙ omega arith) m) in
     rw e₁ (ap (λ (x : List (List ℕ)). r ∷ x) rest)

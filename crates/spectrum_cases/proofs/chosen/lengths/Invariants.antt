@@ -2,8 +2,5 @@
 use Rattle.std.proofs.Common.{◌-◌}
 use Rattle.spectrum_cases.proofs.chosen.lengths.Given as goal
 
-abbrev pub invariant-loop-places : goal.invariant-loop-places
-invariant-loop-places l = Unit {0}
-
 abbrev pub decreases-loop-places : goal.decreases-loop-places
 decreases-loop-places l = l.end - l.places
