@@ -4,6 +4,7 @@ pub mod Range
 pub mod Closed
 pub mod Drawn
 pub mod Inside
+pub mod TracingCases
 pub mod Tracings
 pub mod OneCell
 pub mod Vertices

@@ -22,7 +22,7 @@ use Rattle.outline.specs.Outlining.{outline_of, outlined}
 use Rattle.outline.proofs.Closed.{closes_test}
 use Rattle.outline.proofs.Drawn.{Drawn, closed_drawn, closed_normal}
 use Rattle.outline.proofs.Sameness.{equal_outlines}
-use Rattle.outline.proofs.Tracings.{Tracing, is_octagon, is_open, is_off, tracing}
+use Rattle.outline.proofs.TracingCases.{Tracing, is_octagon, is_open, is_off, tracing}
 
 -- ---- the outline of normalised bounds, as linear facts
 

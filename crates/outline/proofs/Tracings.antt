@@ -5,41 +5,21 @@ use mathlib.Core.Bool.{cond}
 use mathlib.Core.Logic.{◌↔◌, ◌⊎◌, inl, inr}
 use Prim.Native.Nat.{ℕ, ◌≤◌}
 use native.Mathlib.Omega.{arith}
-use Rattle.integers.proofs.Tests.{cases, true_is_not_false}
 use Rattle.octagon.specs.declared.Octagon.{Octagon}
 use Rattle.octagon.specs.Outcome.{Outcome, accepted, refused, then, off_map}
-use Rattle.octagon.specs.Cells.{◌⊆◌, In, Square, Leaves, OnMap, LeavesMap, limit}
-use Rattle.octagon.specs.NormalForm.{is_within, is_on_map, placed}
+use Rattle.octagon.specs.Cells.{◌⊆◌, Square, Leaves, OnMap, LeavesMap, limit}
+use Rattle.octagon.specs.NormalForm.{is_within}
 use Rattle.octagon.proofs.Outcomes.{accepted_same, refused_same, accepted_not_refused}
-use Rattle.octagon.proofs.Within.{Normal, NearTo, Near}
-use Rattle.octagon.proofs.Vertices.{normal_normalised, normal_reached}
-use Rattle.octagon.proofs.Map.{test_within, within_test, near_square, past_reached, square_larger, test_near, near_cells, far_cell}
+use Rattle.octagon.proofs.Within.{NearTo}
+use Rattle.octagon.proofs.Vertices.{normal_normalised}
+use Rattle.octagon.proofs.Map.{within_test, near_square, near_cells}
 use Rattle.outline.specs.declared.Outline.{Outline}
-use Rattle.outline.specs.Closing.{Closes, closes}
+use Rattle.outline.specs.Closing.{Closes}
 use Rattle.outline.specs.Walk.{InsideWalk}
 use Rattle.outline.specs.Tracing.{not_closed, drawn, traced, traced_in}
 use Rattle.outline.specs.Meaning.{OctagonOf}
-use Rattle.outline.proofs.Closed.{test_closes, closes_test}
-use Rattle.outline.proofs.Drawn.{closed_normal}
 use Rattle.outline.proofs.Inside.{inside_walk}
-
--- each answer, with what it says of the outline
-pub data Tracing (o : Outline) : Outcome Octagon → Type 0 where
-  is_octagon : (a : Octagon) → a ≡ drawn o → Closes o → Normal a → Near a → Tracing o (accepted a)
-  is_open : ¬ (Closes o) → Tracing o (refused not_closed)
-  is_off : Closes o → LeavesMap (InsideWalk o) → Tracing o (refused off_map)
-
-pub tracing : (o : Outline) → Tracing o (traced o)
-unfolding traced placed
-tracing o =
-    cases (closes o)
-    (λ h. cases (is_on_map (drawn o))
-    (λ m. rw (h, m) (is_octagon (drawn o) refl (test_closes o h) (closed_normal o (test_closes o h)) (test_near (drawn o) m)))
-    (λ m. rw (h, m) (is_off (test_closes o h) (leaves (far_cell (drawn o) (closed_normal o (test_closes o h)) m)))))
-    (λ h. rw h (is_open (λ k. true_is_not_false (sym (closes_test o k) ∙ h))))
-  where
-    leaves : LeavesMap (In (drawn o)) → LeavesMap (InsideWalk o)
-    leaves f = record { x = f.x; y = f.y; cell = ((inside_walk o f.x f.y).0 f.cell.0, f.cell.1) }
+use Rattle.outline.proofs.TracingCases.{Tracing, is_octagon, is_open, is_off, tracing, TracingIn, is_octagon_in, is_open_in, is_off_in, tracing_in}
 
 -- accepted: exactly the cells inside the walk, each bound reached, every cell on the map
 pub accepted_means : (o : Outline) (a : Octagon) → traced o ≡ accepted a → OctagonOf o a
@@ -62,31 +42,10 @@ accepted_drawn o a = go (tracing o)
 
 -- ---- on the smaller map from -r to r, by way of the whole one
 
--- each answer, with what it says of the outline
-pub data TracingIn (r : ℕ) (o : Outline) : Outcome Octagon → Type 0 where
-  is_octagon_in : (a : Octagon) → traced o ≡ accepted a → NearTo r a → TracingIn r o (accepted a)
-  is_open_in : ¬ (Closes o) → TracingIn r o (refused not_closed)
-  is_off_in : Closes o → Leaves r (InsideWalk o) → TracingIn r o (refused off_map)
-
 module _ (r : ℕ) (l : r ≤ limit) (o : Outline) where
-  pub tracing_in : TracingIn r o (traced_in r o)
-  unfolding traced_in
-  tracing_in = go (tracing o) refl
-    where
-      leaves : (a : Octagon) → a ≡ drawn o → Leaves r (In a) → Leaves r (InsideWalk o)
-      leaves a e f = record { x = f.x; y = f.y; cell = ((inside_walk o f.x f.y).0 (rw e at f.cell.0), f.cell.1) }
-
-      go : {t : Outcome Octagon} → Tracing o t → traced o ≡ t → TracingIn r o (then t (λ a. cond (is_within r a) (accepted a) (refused off_map)))
-      go (is_octagon a e k n m) q =
-          cases (is_within r a)
-          (λ h. rw h (is_octagon_in a q (test_within r a h)))
-          (λ h. rw h (is_off_in k (leaves a e (past_reached r a (normal_reached a n) h))))
-      go (is_open f) q = is_open_in f
-      go (is_off k f) q = is_off_in k (record { x = f.x; y = f.y; cell = (f.cell.0, λ m. f.cell.1 (square_larger r limit l m)) })
-
   -- accepted: the octagon of the outline, with its even bounds at most r
   pub in_near : (a : Octagon) → traced_in r o ≡ accepted a → (traced o ≡ accepted a) × NearTo r a
-  in_near a = go tracing_in
+  in_near a = go (tracing_in r l o)
     where
       go : {t : Outcome Octagon} → TracingIn r o t → t ≡ accepted a → (traced o ≡ accepted a) × NearTo r a
       go (is_octagon_in b e m) q = let f = accepted_same q in (e ∙ ap accepted f, rw f at m)
@@ -101,7 +60,7 @@ module _ (r : ℕ) (l : r ≤ limit) (o : Outline) where
 
   -- and that is so wherever the outline closes and its cells are on the smaller map
   pub in_when : Closes o → InsideWalk o ⊆ Square r → (a : Octagon) × (traced_in r o ≡ accepted a)
-  in_when k h = go tracing_in refl
+  in_when k h = go (tracing_in r l o) refl
     where
       go : {t : Outcome Octagon} → TracingIn r o t → traced_in r o ≡ t → (a : Octagon) × (traced_in r o ≡ accepted a)
       go (is_octagon_in b e m) q = (b, q)
@@ -110,7 +69,7 @@ module _ (r : ℕ) (l : r ≤ limit) (o : Outline) where
 
   -- 3 exactly where it does not close
   pub in_not_closed : (traced_in r o ≡ refused not_closed) ↔ (¬ (Closes o))
-  in_not_closed = (to tracing_in, from tracing_in refl)
+  in_not_closed = (to (tracing_in r l o), from (tracing_in r l o) refl)
     where
       to : {t : Outcome Octagon} → TracingIn r o t → t ≡ refused not_closed → ¬ (Closes o)
       to (is_octagon_in b e m) q = absurd (accepted_not_refused q)
@@ -124,7 +83,7 @@ module _ (r : ℕ) (l : r ≤ limit) (o : Outline) where
 
   -- 2 exactly where it closes and some cell lies off the smaller map
   pub in_off_map : (traced_in r o ≡ refused off_map) ↔ (Closes o × Leaves r (InsideWalk o))
-  in_off_map = (to tracing_in, from tracing_in refl)
+  in_off_map = (to (tracing_in r l o), from (tracing_in r l o) refl)
     where
       to : {t : Outcome Octagon} → TracingIn r o t → t ≡ refused off_map → Closes o × Leaves r (InsideWalk o)
       to (is_octagon_in b e m) q = absurd (accepted_not_refused q)
@@ -140,7 +99,7 @@ module _ (r : ℕ) (l : r ≤ limit) (o : Outline) where
 
   -- and no other refusal is ever given
   pub in_refused_only : (k : ℕ) → traced_in r o ≡ refused k → (k ≡ not_closed) ⊎ (k ≡ off_map)
-  in_refused_only k = go tracing_in
+  in_refused_only k = go (tracing_in r l o)
     where
       go : {t : Outcome Octagon} → TracingIn r o t → t ≡ refused k → (k ≡ not_closed) ⊎ (k ≡ off_map)
       go (is_octagon_in b e m) q = absurd (accepted_not_refused q)

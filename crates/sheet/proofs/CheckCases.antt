@@ -9,7 +9,8 @@ use Rattle.integers.proofs.Tests.{cases}
 use Rattle.octagon.specs.declared.Octagon.{Octagon}
 use Rattle.octagon.specs.Outcome.{Outcome, accepted, refused, then}
 use Rattle.outline.specs.Tracing.{traced}
-use Rattle.outline.proofs.Tracings.{Tracing, is_octagon, is_open, is_off, tracing, refused_not_closed, refused_off_map}
+use Rattle.outline.proofs.TracingCases.{Tracing, is_octagon, is_open, is_off, tracing}
+use Rattle.outline.proofs.Tracings.{refused_not_closed, refused_off_map}
 use Rattle.sheet.specs.declared.Record.{Record}
 use Rattle.sheet.specs.declared.trailer.Trailer.{Trailer}
 use Rattle.sheet.specs.Trailer.{trailer_length, trailer_at}

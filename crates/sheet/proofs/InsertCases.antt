@@ -14,7 +14,8 @@ use Rattle.octagon.specs.Outcome.{Outcome, accepted, refused, then}
 use Rattle.octagon.proofs.Outcomes.{accepted_not_refused}
 use Rattle.outline.specs.declared.Outline.{Outline}
 use Rattle.outline.specs.Tracing.{traced}
-use Rattle.outline.proofs.Tracings.{Tracing, is_octagon, is_open, is_off, tracing, accepted_means, accepted_when, refused_not_closed, refused_off_map}
+use Rattle.outline.proofs.TracingCases.{Tracing, is_octagon, is_open, is_off, tracing}
+use Rattle.outline.proofs.Tracings.{accepted_means, accepted_when, refused_not_closed, refused_off_map}
 use Rattle.sheet.specs.declared.Record.{Record}
 use Rattle.sheet.specs.declared.trailer.Trailer.{Trailer}
 use Rattle.sheet.specs.Answers.{bad_number, no_room}

@@ -2,9 +2,11 @@
 pub mod Scales
 pub mod Edges
 pub mod Rounding
+pub mod Shift
 pub mod Nearest
 pub mod Coordinates
 pub mod Between
+pub mod HullBounds
 pub mod Hulls
 pub mod OnePoint
 pub mod PointTests

@@ -15,16 +15,10 @@ use Rattle.integers.proofs.Parts.{up, dn, diff_parts, neg_up, neg_dn, parts_le}
 use Rattle.integers.proofs.Linear.{#, ◌≼◌}
 use Rattle.tape.specs.Snapping.{Nearest, with_sign}
 use Rattle.tape.proofs.Scales.{twice_less, twice_more}
+use Rattle.tape.proofs.Shift.{quarters, quarters_bits}
 use Rattle.tape.proofs.Rounding.{rounded, bits, no_nan}
 
 -- ---- the sum
-
--- the number that is added, 1.5 × 2^50, and its bits
-abbrev pub quarters : Float
-quarters = fin false 3 (pos 49)
-
-abbrev pub quarters_bits : ℕ
-quarters_bits = 1072 * 2 ^ 52 + 3 * 2 ^ 51
 
 -- a / d is the sum of ±b / d and 1.5 × 2^50
 abbrev pub Shifted : Bool → ℕ → ℕ → ℕ → Type 0

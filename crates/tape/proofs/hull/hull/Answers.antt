@@ -5,7 +5,7 @@ use Rattle.integers.proofs.Range.{signs}
 use Rattle.octagon.specs.Widths.{Held}
 use Rattle.octagon.proofs.Fields.{back, back_is, stored}
 use Rattle.tape.specs.Hull.{hull}
-use Rattle.tape.proofs.Hulls.{hull_held}
+use Rattle.tape.proofs.HullBounds.{hull_held}
 use Rattle.tape.proofs.hull.hull.Goals.{Start}
 use Rattle.tape.proofs.hull.hull.Goals as goal
 

@@ -14,7 +14,8 @@ use mir.Facts.{to_z_pos, to_z-of_z, sfits_widen}
 use Rattle.octagon.specs.Cells.{limit}
 use Rattle.tape.specs.Snapping.{within_edges}
 use Rattle.tape.proofs.Edges.{between_bound, between_finite}
-use Rattle.tape.proofs.Nearest.{Told, told, tells, quarters, quarters_bits}
+use Rattle.tape.proofs.Nearest.{Told, told, tells}
+use Rattle.tape.proofs.Shift.{quarters, quarters_bits}
 use Rattle.tape.proofs.snapping.nearest.Goals as goal
 
 -- how many eighths of a metre the map's edge is from its middle
