@@ -1,6 +1,6 @@
 /* Octagon plots on the quarter-metre grid, for C and C++.
  *
- * Every function is proved: crates/koxirmeta_c, and crates/listing_c for the listing, state what each answers and what it leaves in
+ * Every function is proved: crates/koxirmeta_c_c, and crates/listing_c_c for the listing, state what each answers and what it leaves in
  * the memory that it was lent, and Rattle's checker has accepted it. bindings/archive.sh makes target/bindings/libkoxirmeta.a.
  *
  * ANSWERS. Each call returns KX_ACCEPTED (0), the number of a refusal of documents 01 and 02, or KX_WRONG_LENGTH. Only an accepted

@@ -2,7 +2,7 @@
 """Joins of two sheets by document 02 (U6), worked out apart from the crates: a dictionary of plots by number. join_pairs.py has the pairs.
 
     python3 tests/joins.py write    writes stdin and stdout of crates/join_cases
-    python3 tests/joins.py try      runs target/bin/join_cases, as `rt check join_cases` leaves it, on 4,000 random pairs
+    python3 tests/joins.py try      runs crates/join_cases/out/join_cases, as `rt run` leaves it in crates/join_cases, on 4,000 random pairs
 
 exports.py and examples.py use `join`. Run this from the top of the repository. It needs Python 3.9 or newer and nothing else.
 """
@@ -180,10 +180,10 @@ def attempt():
     rng = random.Random(1)
     made = [random_pair(rng, "r%d" % k) for k in range(4000)]
     expected = written(made)
-    given = subprocess.run(["target/bin/join_cases"], input=read(made), capture_output=True, check=True)
+    given = subprocess.run(["crates/join_cases/out/join_cases"], input=read(made), capture_output=True, check=True)
     for line, (got, want) in enumerate(itertools.zip_longest(given.stdout.split(b"\n"), expected.split(b"\n"))):
         if got != want:
-            sys.exit("line %d: target/bin/join_cases wrote %s and not %s" % (line + 1, got, want))
+            sys.exit("line %d: crates/join_cases/out/join_cases wrote %s and not %s" % (line + 1, got, want))
     print("%d pairs agree; %s" % (len(made), tally(expected)))
 
 

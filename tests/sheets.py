@@ -2,7 +2,7 @@
 """Sheets and listings by documents 01 and 02, worked out apart from the crates: an own reading of the format, and cells counted one by one.
 
     python3 tests/sheets.py write    writes stdin and stdout of crates/listing and crates/listing_cases, and crates/sheet_cases/stdout
-    python3 tests/sheets.py try      runs target/bin/listing, as `rt check listing` leaves it, on 400 random sheets, good and spoilt
+    python3 tests/sheets.py try      runs crates/listing/out/listing, as `rt run` leaves it in crates/listing, on 400 random sheets, good and spoilt
 
 A record has 26 bytes, of which the last two are its fee row, or 24, and then its fee row is 0. What crates/sheet_cases writes is worked out
 in tests/sheet_cases.py. Run this from the top of the repository. It needs Python 3.9 or newer and nothing else.
@@ -330,9 +330,9 @@ def attempt():
     for k in range(400):
         data = random_sheet(rng)
         expected = listing(data, len(data))
-        given = subprocess.run(["target/bin/listing"], input=data, capture_output=True, check=True)
+        given = subprocess.run(["crates/listing/out/listing"], input=data, capture_output=True, check=True)
         if (given.stdout, given.stderr) != (expected.encode(), b""):
-            sys.exit("sheet %d: expected\n%sbut target/bin/listing wrote\n%s%s" % (k, expected, given.stdout, given.stderr))
+            sys.exit("sheet %d: expected\n%sbut crates/listing/out/listing wrote\n%s%s" % (k, expected, given.stdout, given.stderr))
         kind = expected.split("\n")[0] if expected.startswith("refused") else "listed at %d" % data[-8]
         seen[kind] = seen.get(kind, 0) + 1
         if kind.startswith("listed"):

@@ -2,7 +2,7 @@
 """The surveyor's tapes, and what is answered to each. enclosing.py works the answers out, apart from the crates; tape_blocks.py has the tapes.
 
     python3 tests/tapes.py write    writes stdin and stdout of crates/tape_cases
-    python3 tests/tapes.py try      runs target/bin/tape_cases, as `rt check tape_cases` leaves it, on 20,000 random tapes
+    python3 tests/tapes.py try      runs crates/tape_cases/out/tape_cases, as `rt run` leaves it in crates/tape_cases, on 20,000 random tapes
 
 Run it from the top of the repository. It needs Python 3.9 or newer and nothing else.
 """
@@ -90,10 +90,10 @@ def random_tape(rng):
 def attempt():
     rng = random.Random(1)
     made = [("r%d" % k, 10, [random_tape(rng) for _ in range(1000)]) for k in range(20)]
-    given = subprocess.run(["target/bin/tape_cases"], input=read(made), capture_output=True, check=True)
+    given = subprocess.run(["crates/tape_cases/out/tape_cases"], input=read(made), capture_output=True, check=True)
     for line, (got, want) in enumerate(itertools.zip_longest(given.stdout.split(b"\n"), written(made).split(b"\n"))):
         if got != want:
-            sys.exit("line %d: target/bin/tape_cases wrote %s and not %s" % (line + 1, got, want))
+            sys.exit("line %d: crates/tape_cases/out/tape_cases wrote %s and not %s" % (line + 1, got, want))
     print("20000 tapes agree")
 
 
