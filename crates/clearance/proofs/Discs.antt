@@ -4,91 +4,36 @@ use mathlib.Core.Path.{◌≡◌, refl}
 use Prim.Native.Nat.{ℕ, zero, suc, ◌+◌, ◌*◌, ◌≤◌}
 use native.Mathlib.Nat.{mul-le-mul}
 use native.Mathlib.Omega.{arith}
-use lib.Dec.{leb→le, le→leb}
 use lib.IntN.{ℤ, pos, negsuc, neg_ℤ, nat_abs, ◌+ℤ◌, ◌-ℤ◌}
 use Rattle.integers.proofs.Parts.{up, dn, sum_parts, diff_parts, neg_up, neg_dn, parts_eq, eq_parts}
-use Rattle.integers.proofs.Linear.{#, neg, lit, ◌≼◌}
-use Rattle.octagon.specs.declared.Octagon.{Octagon}
-use Rattle.octagon.specs.Cells.{Cells, ◌⊆◌, ◌≐◌, Some, In, ReachedBy, Smallest}
+use Rattle.octagon.specs.Cells.{Cells, ◌⊆◌, ◌≐◌, Some, ReachedBy, Smallest}
 use Rattle.octagon.specs.OneCell.{OneCell}
-use Rattle.octagon.proofs.Within.{Within, cell_in}
 use Rattle.octagon.proofs.Smallest.{smallest_when}
-use Rattle.clearance.specs.Disc.{square, Disc, SlantReach}
-use Rattle.clearance.specs.Clearing.{slant_reach, axes, with_slants, octagon_about}
-use Rattle.clearance.proofs.Squares.{leg, slant, Legs, legs}
+use Rattle.clearance.specs.Disc.{Disc}
+use Rattle.clearance.specs.Clearing.{slant_reach, octagon_about}
+use Rattle.clearance.proofs.Squares.{leg, Legs, legs}
 use Rattle.clearance.proofs.Reaches.{reach_meets}
+use Rattle.clearance.proofs.DiscCells.{in_disc_means, in_disc_when, reaching, disc_holds}
 
 -- ---- integers by how far they are from 0
-
-abs_most : (z : ℤ) → (# z ≼ lit (nat_abs z)) × (neg (# z) ≼ lit (nat_abs z))
-unfolding up dn
-abs_most (pos n) = (omega arith, omega arith)
-abs_most (negsuc n) = (omega arith, omega arith)
 
 abs_neg : (n : ℕ) → nat_abs (neg_ℤ (pos n)) ≡ n
 abs_neg zero = refl
 abs_neg (suc n) = refl
-
-square_is : (z : ℤ) → square z ≡ pos (nat_abs z * nat_abs z)
-square_is (pos n) = refl
-square_is (negsuc n) = refl
 
 -- a step there, taken back
 back_again : (a d : ℤ) → (a +ℤ d) -ℤ a ≡ d
 back_again a d = parts_eq ((a +ℤ d) -ℤ a) d (omega (arith, sum_parts a d, diff_parts (a +ℤ d) a))
 
 module _ (i j : ℤ) (r : ℕ) where
-  -- how many columns and how many rows a cell is from the centre
-  abbrev across : ℤ → ℕ
-  across x = nat_abs (x -ℤ i)
-
-  abbrev upward : ℤ → ℕ
-  upward y = nat_abs (y -ℤ j)
-
-  in_disc_means : (x y : ℤ) → Disc i j r x y → across x * across x + upward y * upward y ≤ r * r
-  in_disc_means x y h = leb→le _ _ (rw (square_is (x -ℤ i), square_is (y -ℤ j)) at h.le)
-
-  in_disc_when : (x y : ℤ) → across x * across x + upward y * upward y ≤ r * r → Disc i j r x y
-  in_disc_when x y h = rw (square_is (x -ℤ i), square_is (y -ℤ j)) (record { le = le→leb _ _ h })
-
-  -- the bounds that reach r along the axes and s along the slants
-  abbrev reaching : ℕ → Octagon
-  reaching s = with_slants (axes i j r) i j s
-
-  -- ---- each cell is within the bounds
-
-  disc_holds : (s : ℕ) → SlantReach r s → Disc i j r ⊆ In (reaching s)
-  unfolding up dn
-  disc_holds s k x y h = cell_in (go (across x) (upward y) (in_disc_means x y h) (abs_most (x -ℤ i)) (abs_most (y -ℤ j)))
-    where
-      go : (a b : ℕ) → a * a + b * b ≤ r * r →
-          (# (x -ℤ i) ≼ lit a) × (neg (# (x -ℤ i)) ≼ lit a) → (# (y -ℤ j) ≼ lit b) × (neg (# (y -ℤ j)) ≼ lit b) →
-          Within (reaching s) x y
-      go a b q d e =
-          let la : a ≤ r = leg a b r q in
-          let lb : b ≤ r = leg b a r (omega arith) in
-          let ls : a + b ≤ s = slant a b r s q k in
-          let dx = diff_parts x i in
-          let dy = diff_parts y j in
-          record {
-            i0 = omega (arith, sum_parts (pos r) (neg_ℤ j), neg_up j, neg_dn j);
-            i1 = omega (arith, sum_parts (pos s) (i -ℤ j), diff_parts i j);
-            i2 = omega (arith, sum_parts (pos r) i);
-            i3 = omega (arith, sum_parts (pos s) (i +ℤ j), sum_parts i j);
-            i4 = omega (arith, sum_parts (pos r) j);
-            i5 = omega (arith, sum_parts (pos s) (neg_ℤ i +ℤ j), sum_parts (neg_ℤ i) j, neg_up i, neg_dn i);
-            i6 = omega (arith, sum_parts (pos r) (neg_ℤ i), neg_up i, neg_dn i);
-            i7 = omega (arith, sum_parts (pos s) (neg_ℤ i -ℤ j), diff_parts (neg_ℤ i) j, neg_up i, neg_dn i);
-          }
-
   -- ---- each bound is reached by a cell
 
   -- the cell that is moved from the centre by d and e, a columns and b rows
   at : {P : Cells} (d e : ℤ) (a b : ℕ) → nat_abs d ≡ a → nat_abs e ≡ b → a * a + b * b ≤ r * r → P (i +ℤ d) (j +ℤ e) → Some (λ x y. Disc i j r x y × P x y)
   at d e a b p q h w =
-      record { x = i +ℤ d; y = j +ℤ e; cell = (in_disc_when (i +ℤ d) (j +ℤ e) (rw (back_again i d, back_again j e, p, q) h), w) }
+      record { x = i +ℤ d; y = j +ℤ e; cell = (in_disc_when i j r (i +ℤ d) (j +ℤ e) (rw (back_again i d, back_again j e, p, q) h), w) }
 
-  disc_reaches : (s : ℕ) → Legs r s → ReachedBy (Disc i j r) (reaching s)
+  disc_reaches : (s : ℕ) → Legs r s → ReachedBy (Disc i j r) (reaching i j r s)
   unfolding up dn
   disc_reaches s l =
       let a = l.a in
@@ -128,7 +73,7 @@ module _ (i j : ℤ) (r : ℕ) where
   unfolding octagon_about
   disc_smallest =
       let k = reach_meets r in
-      smallest_when (disc_holds (slant_reach r) k) (disc_reaches (slant_reach r) (legs r (slant_reach r) k))
+      smallest_when (disc_holds i j r (slant_reach r) k) (disc_reaches (slant_reach r) (legs r (slant_reach r) k))
 
 -- ---- the radius alone
 

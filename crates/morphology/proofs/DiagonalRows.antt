@@ -3,40 +3,21 @@ use mathlib.Core.Path.{◌≡◌, sym, ◌∙◌}
 use mathlib.Core.Logic.{◌↔◌, ◌⊎◌, inl, inr}
 use mathlib.Core.Bool.{Bool, true, false, ◌&&◌}
 use native.Mathlib.Omega.{arith}
-use lib.IntN.{ℤ, pos, ◌+ℤ◌}
-use lib.Signed.{le_z}
-use Rattle.integers.proofs.Parts.{up, dn, sum_parts, diff_parts, eq_parts}
+use lib.IntN.{ℤ}
+use Rattle.integers.proofs.Parts.{sum_parts, diff_parts, eq_parts}
 use Rattle.integers.proofs.Linear.{Diff, #, ◌⊕◌, lit, ◌≼◌, same}
 use Rattle.integers.proofs.Between.{decide}
-use Rattle.integers.proofs.Tests.{both_true, and_true, or_either, either_or, test_le, le_test, true_is_not_false}
+use Rattle.integers.proofs.Tests.{both_true, and_true, or_either, either_or, true_is_not_false}
 use Rattle.octagon.specs.declared.Octagon.{Octagon}
 use Rattle.octagon.specs.Cells.{In, Normalised}
 use Rattle.octagon.proofs.Within.{Within, Normal, within, cell_in}
 use Rattle.octagon.proofs.Vertices.{Vertex, vertex_12, vertex_34, vertex_56, vertex_70, reached_normal}
 use Rattle.morphology.specs.Sets.{DiagonalRow, Rising, Falling, OpposedRows}
-use Rattle.morphology.specs.Operations.{is_row, is_rising, is_falling, are_opposed}
+use Rattle.morphology.specs.Operations.{is_rising, is_falling, are_opposed}
 use Rattle.morphology.proofs.Meet.{Opposed}
+use Rattle.morphology.proofs.RowTests.{Line, row_line, line_row}
 
--- ---- the tests as linear facts
-
-pub record Line (p q s t : ℤ) : Type 0 where
-  pub one_line : # p ⊕ # q ≼ lit 0
-  pub many : lit 1 ≼ # s ⊕ # t
-
-pub row_line : (p q s t : ℤ) → is_row p q s t ≡ true → Line p q s t
-unfolding up dn
-row_line p q s t h =
-    let b = both_true (le_z (p +ℤ q) (pos 0)) (le_z (pos 1) (s +ℤ t)) h in
-    let l = test_le (p +ℤ q) (pos 0) b.0 in
-    let m = test_le (pos 1) (s +ℤ t) b.1 in
-    record { one_line = omega (arith, l, sum_parts p q); many = omega (arith, m, sum_parts s t) }
-
-pub line_row : (p q s t : ℤ) → Line p q s t → is_row p q s t ≡ true
-unfolding up dn
-line_row p q s t l =
-    and_true (le_test (p +ℤ q) (pos 0) (omega (arith, l.one_line, sum_parts p q))) (le_test (pos 1) (s +ℤ t) (omega (arith, l.many, sum_parts s t)))
-
--- ---- and as cells
+-- ---- rows as cells
 
 module _ {d : ℤ → ℤ → ℤ} {c : Octagon} {p q s t : Diff} (v : Vertex c p q) (w : Vertex c s t) where
   -- a row of two vertices in different columns

@@ -17,7 +17,7 @@ use Rattle.morphology.specs.Marks.{Marked, marked}
 use Rattle.morphology.specs.Operations.{sums, is_row, is_rising, is_falling, are_opposed, dilation, erosion, opened}
 use Rattle.morphology.specs.Folds.{multiples, fold_limit, are_opposed_in, dilation_n, erosion_n}
 use Rattle.morphology.specs.Premises.{opened_n}
-use Rattle.morphology.proofs.DiagonalRows.{Line, row_line, line_row}
+use Rattle.morphology.proofs.RowTests.{Line, row_line, line_row}
 use Rattle.morphology.proofs.Multiples.{multiples_next}
 use Rattle.morphology.proofs.Handed.{own_form}
 use Rattle.morphology.proofs.Dilations.{dilation_n_accepted, Sum, accepted_sum}

@@ -10,7 +10,8 @@ use Rattle.octagon.specs.Cells.{◌≐◌, In}
 use Rattle.octagon.proofs.Within.{Within, Normal, within, cell_in}
 use Rattle.octagon.proofs.Vertices.{Vertex, vertex_12, vertex_34, vertex_56, vertex_70}
 use Rattle.morphology.specs.Sets.{Dilated, OpposedRows}
-use Rattle.morphology.proofs.DiagonalRows.{Line, cells_rising, cells_falling}
+use Rattle.morphology.proofs.RowTests.{Line}
+use Rattle.morphology.proofs.DiagonalRows.{cells_rising, cells_falling}
 use Rattle.morphology.proofs.SetLaws.{same_trans, dilated_comm}
 
 -- four cells round one, as the corners of a square stood on its point

@@ -6,6 +6,7 @@ pub mod Meet
 pub mod Sums
 pub mod Differences
 pub mod Multiples
+pub mod RowTests
 pub mod DiagonalRows
 pub mod Holes
 pub mod Fillings

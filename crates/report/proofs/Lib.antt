@@ -7,6 +7,7 @@ pub mod Plots
 pub mod Lengths
 pub mod Listings
 pub mod Divisions
+pub mod RowIntegers
 pub mod LinesRead
 pub mod ReadBacks
 pub mod Examples

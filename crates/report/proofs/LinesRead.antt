@@ -12,6 +12,7 @@ use Rattle.report.specs.Lines.{space, row_line, last_line, refused_line}
 use Rattle.report.specs.ReadBack.{divided, word_of, IsNumber, nought, positive, negative, column_names, PlotRow, LastLine}
 use Rattle.report.specs.ReadBack.{Column, plot_number, plot_i, plot_j, plot_n0, plot_n1, plot_n2, plot_n3, plot_n4, plot_n5, plot_n6, plot_n7, plot_cells, plot_fee}
 use Rattle.report.proofs.Decimals.{decimal_digits, decimal_nought, decimal_leads, integer_signed_decimal}
+use Rattle.report.proofs.RowIntegers.{row_integers}
 use Rattle.report.proofs.Divisions.{tested_above, no_word, word, signed_decimal_word, integer_words, Lined, lined}
 
 -- element k of a list that is mapped
@@ -33,14 +34,6 @@ is_number (pos (suc n)) = (led (decimal_digits (suc n)) (decimal_leads (suc n) (
 is_number (negsuc n) = (led (decimal_digits (suc n)) (decimal_leads (suc n) (omega arith))).1
 
 -- ---- a row
-
--- its numbers
-abbrev row_integers : Record → ℕ → List ℤ
-row_integers r n =
-    let o = r.outline in
-    pos r.number ∷ o.i ∷ o.j
-    ∷ pos o.n0 ∷ pos o.n1 ∷ pos o.n2 ∷ pos o.n3 ∷ pos o.n4 ∷ pos o.n5 ∷ pos o.n6 ∷ pos o.n7
-    ∷ pos n ∷ pos r.fee_row ∷ []
 
 pub row_lined : (r : Record) (n : ℕ) → Lined (row_line r n) (map signed_decimal (row_integers r n))
 unfolding row_line signed_decimal

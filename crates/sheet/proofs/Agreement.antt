@@ -9,40 +9,21 @@ use mathlib.Core.List.{List, [], ◌∷◌}
 use Prim.Native.Nat.{ℕ, suc, ◌+◌}
 use native.Mathlib.Omega.{arith}
 use lib.ListN.{length}
-use lib.Dec.{ltb, eqb}
+use lib.Dec.{eqb}
 use borrow.Author.Tests.{eqb-true, eq-eqb, not-true, not-false}
-use Rattle.integers.proofs.Tests.{cases, true_is_not_false, both_true, and_true, or_false}
-use Rattle.octagon.specs.Outcome.{accepted}
+use Rattle.integers.proofs.Tests.{cases, true_is_not_false, both_true, or_false}
 use Rattle.outline.specs.Sameness.{same_outline}
-use Rattle.outline.proofs.Sameness.{same_outline_is, same_outline_self}
+use Rattle.outline.proofs.Sameness.{same_outline_is}
 use Rattle.sheet.specs.declared.Record.{Record}
-use Rattle.sheet.specs.Order.{Ascending, last, next, present, put_in_order}
+use Rattle.sheet.specs.Order.{Ascending, last, next, present}
 use Rattle.sheet.specs.Merging.{Agree, same_record, differ, contradicted, conflict, Among, put_once, merged, in_both}
 use Rattle.sheet.proofs.Order.{length_put_in_order}
 use Rattle.sheet.proofs.Merging.{absent_below}
-use Rattle.sheet.proofs.Members.{not_among_nil, among_cons, among_put_in_order, present_among, ascending_above}
+use Rattle.sheet.proofs.PutOnce.{or_swap, present_put_once, among_put_once}
+use Rattle.sheet.proofs.SameRecords.{same_record_self}
+use Rattle.sheet.proofs.Members.{not_among_nil, among_cons, ascending_above}
 
 -- ---- which numbers they have
-
-or_swap : (a b c : Bool) → (a || (b || c)) ≡ (b || (a || c))
-or_swap true true c = refl
-or_swap true false c = refl
-or_swap false b c = refl
-
-present_put_in_order : (v : ℕ) (r : Record) (rs : List Record) → present v (put_in_order r rs) ≡ (eqb r.number v || present v rs)
-present_put_in_order v r [] = refl
-present_put_in_order v r (a ∷ rs) = pick (ltb a.number r.number) (present_put_in_order v r rs)
-  where
-    pick : (b : Bool) → present v (put_in_order r rs) ≡ (eqb r.number v || present v rs)
-        → present v (cond b (a ∷ put_in_order r rs) (r ∷ a ∷ rs)) ≡ (eqb r.number v || (eqb a.number v || present v rs))
-    pick true i = rw i (or_swap (eqb a.number v) (eqb r.number v) (present v rs))
-    pick false i = refl
-
-present_put_once : (v : ℕ) (t : Record) (rs : List Record) → present v (put_once t rs) ≡ (eqb t.number v || present v rs)
-present_put_once v t rs =
-    cases (present t.number rs)
-    (λ e. rw e (cases (eqb t.number v) (λ d. rw (d, ← eqb-true t.number v d) e) (λ d. rw d)))
-    (λ e. rw e (present_put_in_order v t rs))
 
 pub present_merged : (v : ℕ) (rs ts : List Record) → present v (merged rs ts) ≡ (present v rs || present v ts)
 unfolding merged
@@ -79,10 +60,6 @@ same_record_is r t h =
     let a = both_true (eqb r.number t.number && same_outline r.outline t.outline) (eqb r.fee_row t.fee_row) h in
     let b = both_true (eqb r.number t.number) (same_outline r.outline t.outline) a.0 in
     equal_records (eqb-true _ _ b.0) (same_outline_is r.outline t.outline b.1) (eqb-true _ _ a.1)
-
-pub same_record_self : (r : Record) → same_record r r ≡ true
-unfolding same_record
-same_record_self r = and_true (and_true (eq-eqb r.number r.number refl) (same_outline_self r.outline)) (eq-eqb r.fee_row r.fee_row refl)
 
 differ_told : (r t : Record) → differ r t ≡ true → (r.number ≡ t.number) × ¬ (r ≡ t)
 differ_told r t h =
@@ -138,16 +115,6 @@ conflict_none (r ∷ rs) ts h a t m =
     go f i (inr k) n e = i a t k n e
 
 -- ---- which they are
-
-among_put_once : (q t : Record) (rs : List Record) → ((x : Record) → Among x rs → x.number ≡ t.number → x ≡ t) → Among q (put_once t rs) ↔ ((q ≡ t) ⊎ Among q rs)
-among_put_once q t rs f =
-    cases (present t.number rs)
-    (λ e. let p = present_among t.number rs e in rw e (inr, there p.0 p.1 (f p.0 p.1 p.2)))
-    (λ e. rw e (among_put_in_order q t rs))
-  where
-    there : (x : Record) → Among x rs → x ≡ t → (q ≡ t) ⊎ Among q rs → Among q rs
-    there x (k, m) e (inl d) = (k, m ∙ ap accepted (e ∙ sym d))
-    there x m e (inr n) = n
 
 -- those of either list, where a number stands for one record in both
 pub among_merged : {P : Record → Type 0} {w : ℕ} (rs : List Record) {ts : List Record} → Ascending P w ts → Agree rs ts → (q : Record)

@@ -93,13 +93,6 @@ copied ws us v e =
 pub field_below : (ws s : List ℕ) (at k : ℕ) → AreBytes s → k < length ws → get_or (unpacked ws (drop at s)) k 0 < 256 ^ get_or ws k 0
 field_below ws s at k h l = fit_at k l (unpacked_fit ws (drop at s) (drop_bytes at s h))
 
--- the bytes of a record, from the numbers of its fields
-pub written_record : (ws : List ℕ) (r : Record) (a b : ℕ) → a ≡ twos (get_or ws 1 0) r.outline.i → b ≡ twos (get_or ws 2 0) r.outline.j
-    → let o = r.outline in
-    packed ws (r.number ∷ a ∷ b ∷ o.n0 ∷ o.n1 ∷ o.n2 ∷ o.n3 ∷ o.n4 ∷ o.n5 ∷ o.n6 ∷ o.n7 ∷ r.fee_row ∷ []) ≡ encoded ws r
-unfolding encoded
-written_record ws r a b e f = rw (e, f)
-
 -- ---- the layouts that there are
 
 -- what holds of each record length and its layout

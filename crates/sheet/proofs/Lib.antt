@@ -1,7 +1,9 @@
 -- Theorems on sheets.
 pub mod TwosComplement
 pub mod Layouts
+pub mod RecordBytes
 pub mod Order
+pub mod PutOnce
 pub mod Merging
 pub mod Outlines
 pub mod Plots
@@ -24,6 +26,7 @@ pub mod Inserts
 pub mod Grown
 pub mod InsertCases
 pub mod Members
+pub mod SameRecords
 pub mod Agreement
 pub mod Joins
 pub mod Tallies

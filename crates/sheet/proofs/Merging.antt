@@ -2,18 +2,18 @@
 -- first (`next_first`, `next_second`), and whether two differ under one number is told by the first ones and the others (`conflict_step`).
 -- Assumes nothing.
 use mathlib.Core.Path.{◌≡◌, refl, ap, ◌∙◌}
-use mathlib.Core.Bool.{Bool, true, false, cond, ◌||◌}
+use mathlib.Core.Bool.{Bool, true, false, ◌||◌}
 use mathlib.Core.List.{List, [], ◌∷◌}
-use Prim.Native.Nat.{ℕ, ◌+◌, ◌≤◌, ◌<◌}
+use Prim.Native.Nat.{ℕ, ◌≤◌, ◌<◌}
 use native.Mathlib.Omega.{arith}
-use lib.ListN.{length}
 use lib.Dec.{leb}
-use borrow.Author.Tests.{leb-true, leb-false, lt-ltb, le-ltb, le-leb, eq-eqb, ne_eqb}
+use borrow.Author.Tests.{leb-true, leb-false, le-ltb, le-leb, eq-eqb, ne_eqb}
 use Rattle.integers.proofs.Tests.{cases}
 use Rattle.sheet.specs.declared.Record.{Record}
 use Rattle.sheet.specs.Order.{All, none, more, Ascending, last, next, present, put_in_order}
 use Rattle.sheet.specs.Merging.{differ, contradicted, conflict, put_once, merged, leads, heads_differ, without_head}
-use Rattle.sheet.proofs.Order.{length_put_in_order, all_put_in_order, ascending_put_in_order}
+use Rattle.sheet.proofs.Order.{ascending_put_in_order}
+use Rattle.sheet.proofs.PutOnce.{all_once, once_after}
 
 -- ---- numbers that rise from above v
 
@@ -34,9 +34,6 @@ module _ {P : Record → Type 0} (t : Record) where
   ascending_once {v} {rs} h p g =
       cases (present t.number rs) (λ e. rw e g) (λ e. rw e (ascending_put_in_order t h p e g))
 
-  all_once : {rs : List Record} → P t → All P rs → All P (put_once t rs)
-  all_once {rs} p a = cases (present t.number rs) (λ e. rw e a) (λ e. rw e (all_put_in_order t p a))
-
   -- it comes first where its number is below theirs
   once_first : {v : ℕ} {rs : List Record} → t.number ≤ v → Ascending P v rs → put_once t rs ≡ t ∷ rs
   once_first h g = rw (absent_below t.number h g) (first h g)
@@ -44,15 +41,6 @@ module _ {P : Record → Type 0} (t : Record) where
       first : {v : ℕ} {rs : List Record} → t.number ≤ v → Ascending P v rs → put_in_order t rs ≡ t ∷ rs
       first h last = refl
       first h (next {r = r} l p g) = rw (le-ltb r.number t.number (omega arith))
-
--- it comes after one whose number is lower
-once_after : (t r : Record) (rs : List Record) → r.number < t.number → put_once t (r ∷ rs) ≡ r ∷ put_once t rs
-once_after t r rs h =
-    rw (ne_eqb r.number t.number (λ (e : r.number ≡ t.number). omega arith), lt-ltb r.number t.number h) (pick (present t.number rs))
-  where
-    pick : (b : Bool) → cond b (r ∷ rs) (r ∷ put_in_order t rs) ≡ r ∷ cond b rs (put_in_order t rs)
-    pick true = refl
-    pick false = refl
 
 -- ---- the records of both
 
@@ -68,14 +56,6 @@ pub all_merged : {P : Record → Type 0} {rs ts : List Record} → All P rs → 
 unfolding merged
 all_merged a none = a
 all_merged a (more {r = t} p b) = all_once t p (all_merged a b)
-
-pub merged_few : (rs ts : List Record) → length (merged rs ts) ≤ length rs + length ts
-unfolding merged
-merged_few rs [] = omega arith
-merged_few rs (t ∷ ts) =
-    cases (present t.number (merged rs ts))
-    (λ e. rw e (omega (arith, merged_few rs ts)))
-    (λ e. rw e (omega (arith, merged_few rs ts, length_put_in_order t (merged rs ts))))
 
 module _ {P : Record → Type 0} where
   -- one of ts, whose number is below all others

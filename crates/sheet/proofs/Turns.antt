@@ -3,7 +3,7 @@
 use mathlib.Core.Path.{◌≡◌, refl, sym, ap, ◌∙◌}
 use mathlib.Core.Bool.{true, false, ◌||◌}
 use mathlib.Core.List.{List, [], ◌∷◌}
-use Prim.Native.Nat.{ℕ, ◌+◌, ◌-◌, ◌*◌, ◌≤◌, ◌<◌}
+use Prim.Native.Nat.{ℕ, ◌+◌, ◌*◌, ◌≤◌, ◌<◌}
 use native.Mathlib.Omega.{arith}
 use lib.ListN.{length}
 use lib.Dec.{leb, ltb}
@@ -17,7 +17,8 @@ use Rattle.sheet.specs.Sheets.{sheet_limit}
 use Rattle.sheet.specs.Cases.{HasOctagon}
 use Rattle.sheet.specs.Rows.{plots_in, RowsIn, rows_left}
 use Rattle.sheet.proofs.RowsLeft.{head_of, rows_more, rows_none, rows_many, few_rows, left_in, left_plots}
-use Rattle.sheet.proofs.Merging.{merged_few, next_first, next_second, conflict_step}
+use Rattle.sheet.proofs.PutOnce.{merged_few}
+use Rattle.sheet.proofs.Merging.{next_first, next_second, conflict_step}
 
 -- ---- lists
 

@@ -3,7 +3,8 @@ use mathlib.Core.Path.{ap, ◌∙◌}
 use native.Mathlib.Omega.{arith}
 use Rattle.records.specs.Numbers.{twos}
 use Rattle.records.specs.Parts.{splice}
-use Rattle.sheet.proofs.Layouts.{narrow_fields, within_length, written_record}
+use Rattle.sheet.proofs.Layouts.{narrow_fields, within_length}
+use Rattle.sheet.proofs.RecordBytes.{written_record}
 use Rattle.sheet.proofs.TwosComplement.{narrow_kept}
 use Rattle.sheet.proofs.encoding.put_record.Goals as goal
 
