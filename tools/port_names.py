@@ -6,7 +6,7 @@ usage: python3 tools/port_names.py [FOLDER]      once, after the kit's port.py, 
 A name is renamed where this repository declares it: in specs/ and in the lemmas of proofs/ each name with a dash that is not
 imported from the kit, in src/ the names so renamed where a clause cites them. In the proofs of functions (proofs/F/) only those
 names are renamed, since their other names with a dash are the checker's. Names of src/, strings and exported names stay.
-It stops where two names of one file would fall together.
+It says which declared names of one file fall together, and then ends with status 1.
 """
 
 import os

@@ -1,2 +1,2 @@
--- What the proofs of this program cite.
+-- Lemmas on the numbers of this program.
 pub mod Lift

@@ -135,7 +135,7 @@ room_back32 n {z} t f = rw (to_z-of_z f) (room_i32 n t f)
 pub widened : {z : ℤ} → SFits w32 z → SFits w64 (to_z w32 (of_z w32 z))
 widened f = rw (to_z-of_z f) (wide_fits f)
 
--- what a call returned, whose range is `c.f.ok`
+-- what a call returned, whose range is `c.f.type_inv`
 pub kept : (w : Width) {z : ℤ} → mag z < 2 ^ hbits w → to_z w (of_z w z) ≡ z
 kept w h = to_z-of_z (record { sfits = h })
 

@@ -21,13 +21,13 @@ returns-then-k-gt7 c = rw (lt-ltb 7 c.args.k c.if-k-gt7.true)
 
 pub overflow_cast-v : goal.overflow_cast-v
 overflow_cast-v c =
-    let f = fitting c.args.o c.args.k c.requires c.if-k-gt7.false c.vertex-v.ensures in
-    rw (to_z-of_z (wide_fits f.fits_x)) f.fits_x
+    let east = fitting c.args.o c.args.k c.requires c.if-k-gt7.false c.vertex-v.ensures in
+    rw (to_z-of_z (wide_fits east.fits_x)) east.fits_x
 
 pub overflow_cast-v-2 : goal.overflow_cast-v-2
 overflow_cast-v-2 c =
-    let f = fitting c.args.o c.args.k c.requires c.if-k-gt7.false c.vertex-v.ensures in
-    rw (to_z-of_z (wide_fits f.fits_y)) f.fits_y
+    let north = fitting c.args.o c.args.k c.requires c.if-k-gt7.false c.vertex-v.ensures in
+    rw (to_z-of_z (wide_fits north.fits_y)) north.fits_y
 
 pub returns : goal.returns
 unfolding place_of_vertex
