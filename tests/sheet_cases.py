@@ -1,7 +1,7 @@
 """What crates/sheet_cases writes, worked out by the model of tests/sheets.py, whose `write` runs this.
 
-The class has the program's calls in its order: each method is one of its functions. A case is made, called and written here as it is there,
-by the words of tests/sheet_words.py, and what the calls answer and leave is the model's.
+The class has the program's calls in its order: each method has those of one of its functions or of a few. A case is made, called and
+written here as it is there, by the words of tests/sheet_words.py, and what the calls answer and leave is the model's.
 """
 import struct
 

@@ -5,7 +5,7 @@ PAST = 170
 
 
 class Words:
-    """What the program has written so far. Each method is one of its functions."""
+    """What the program has written so far, and how it writes what the calls answer."""
 
     def __init__(self):
         self.out = b""

@@ -1,130 +1,62 @@
 // The plot opened by the element spread with a third octagon (document 02's U8): beside the enumerated sets, and inside the plot opened by
-// the element alone. The third octagon is the element of the pair before or, so that there are opposed rows, K2 or K4 at (0, 0).
-ghost use Rattle.std.specs.Prelude.{◌<◌};
+// the element alone.
+use crate::answers::{Marked, smallest};
+use crate::bounds::Bounds;
+use crate::calls::Call;
+use crate::cells::Cell;
+use crate::operands::{Operand, Pair};
+use crate::sets::Set;
+use crate::tally::Tally;
+use cell_count::count_cells;
+use morphology::{dilate, opening};
+use octagon::Refusal;
 
-use crate::answers::{NOTHING_LEFT, OFF_MAP, is_spread, octagon};
-use crate::bench::{
-    BOUNDS, Bench, ELEMENT, EXPECTED, NUMBER, OPENED, OPENED_NUMBER, OPERANDS, PAIR, PLACES, PLOT,
-    RESULT, THIRD, THIRD_NUMBER, THIRD_PLACE, copy,
-};
-use crate::grid::MIDDLE;
-use crate::tally::OPEN_BY_BOTH;
-use crate::{answers, grid, pieces, sets, tally, walks};
-use cell_count::{Count, count_cells};
-use morphology::Spread;
-use octagon::{Answer, Octagon};
-
-// The plot opened by what a spread gave. A refusal of the spread is the answer of the two.
-fn opened(plot: Octagon, spread: Spread) -> Spread {
-    match spread.answer() {
-        Answer::Octagon(o) => morphology::opening(plot, o),
-        Answer::Refused(n) => Spread::Refused(n),
-    }
+// Expects the element spread with the third octagon.
+fn expect_spread(element: &Operand, third: &Operand) -> Result<Marked, Refusal> {
+    element.normal.and(third.normal)?;
+    smallest(&element.cells.dilated(&third.cells), Refusal::NothingLeft)
 }
 
-// Expects the element spread with the third octagon, and makes the element's set the octagon that is expected. Gives the refusal number, or 0.
-fn spread(bench: &mut Bench) -> usize {
-    let place = bench[PLACES + ELEMENT];
-    sets::enumerate(bench, OPERANDS + 16, RESULT, place);
-    let third = bench[THIRD_PLACE];
-    sets::enumerate(bench, THIRD, ELEMENT, third);
-    sets::fold(bench, false);
-    let number = answers::expect(bench, RESULT, NOTHING_LEFT);
-    let sums = bench[PLACES + RESULT];
-    sets::enumerate(bench, BOUNDS, ELEMENT, sums);
-    number
-}
-
-// The same, of an element that is refused with a number, or 0.
-fn expect_spread(bench: &mut Bench, element: usize) -> usize {
-    let number = if element == 0 {
-        bench[THIRD_NUMBER]
-    } else {
-        element
-    };
-    if number == 0 {
-        return spread(bench);
-    }
-    answers::expect_row(bench, BOUNDS, number);
-    number
-}
-
-// Expects the plot opened by the element's set.
-fn expect_opened(bench: &mut Bench) {
-    let place = bench[PLACES + PLOT];
-    sets::enumerate(bench, OPERANDS, RESULT, place);
-    sets::fold(bench, true);
-    if answers::expect(bench, RESULT, NOTHING_LEFT) == 0 {
-        sets::fold(bench, false);
-        answers::expect(bench, RESULT, NOTHING_LEFT);
-    }
-}
-
-// The same, where the spread or else the plot is refused with a number, or 0.
-fn expect_both(bench: &mut Bench, number: usize) {
-    if number == 0 {
-        expect_opened(bench);
-    } else {
-        answers::expect_row(bench, BOUNDS, number);
-    }
+// Expects the plot opened by the cells of an octagon.
+fn expect_opened(plot: &Operand, element: &Set) -> Result<Marked, Refusal> {
+    plot.normal?;
+    let left = plot.cells.eroded(element);
+    smallest(&left, Refusal::NothingLeft)?;
+    smallest(&left.dilated(element), Refusal::NothingLeft)
 }
 
 // The cells of an octagon by the library, or 0.
-fn cells(o: Octagon) -> u32 {
-    match count_cells(o) {
-        Count::Cells(n) => n,
-        Count::Refused(_) => 0,
-    }
+fn cells(bounds: &Bounds) -> u32 {
+    count_cells(bounds.octagon()).unwrap_or(0)
 }
 
 // Whether what is expected lies inside the plot opened by the element alone, cell by cell, and has no more cells. Where nothing is left for
 // the element, nothing is for both.
-fn is_less(bench: &Bench) -> bool {
-    if bench[NUMBER] != 0 {
-        return true;
-    }
-    if bench[OPENED_NUMBER] != 0 {
-        return bench[OPENED_NUMBER] == OFF_MAP;
-    }
-    let less = cells(octagon(bench, EXPECTED));
-    let more = cells(octagon(bench, OPENED));
-    (0 < less) & (less <= more) & sets::is_inside(bench, EXPECTED, OPENED, bench[PLACES + RESULT])
-}
-
-// Makes the third octagon the bounds of a row, with its window's place and its refusal number, or 0.
-fn put_third(bench: &mut Bench, row: usize, place: usize, number: usize)
-    requires { row < 433 }
-{
-    copy(bench, row, THIRD);
-    bench[THIRD_PLACE] = place;
-    bench[THIRD_NUMBER] = number;
-}
-
-// Chooses the third octagon of the next pair: this element, with its window's place and its refusal number, or 0; or K2 or K4.
-fn choose_third(bench: &mut Bench, place: usize, element: usize) {
-    let pair = bench[PAIR];
-    if pair % 2 == 1 {
-        put_third(bench, OPERANDS + 16, place, element);
-    } else {
-        pieces::put_sides(bench, pair % 4 + 1, 1, 0, 0);
-        walks::bound_inside(bench, grid::ORIGIN, MIDDLE);
-        put_third(bench, BOUNDS, grid::ORIGIN, 0);
+fn is_less(both: &Result<Marked, Refusal>, alone: &Result<Marked, Refusal>, middle: Cell) -> bool {
+    match (both, alone) {
+        (Err(_), _) => true,
+        (Ok(_), Err(refusal)) => *refusal == Refusal::OffMap,
+        (Ok(both), Ok(alone)) => {
+            let less = cells(&both.bounds);
+            let more = cells(&alone.bounds);
+            0 < less && less <= more && Set::within(&both.bounds, middle).is_inside(&alone.bounds)
+        }
     }
 }
 
-// The spread of the element with the third octagon, and the plot opened by what it gave, beside what is expected of them, of a plot and an
-// element that are each refused with a number, or 0; and the opening inside the one by the element. Then the next third octagon is chosen.
-pub fn compare(bench: &mut Bench, plot: usize, element: usize) {
-    let place = bench[PLACES + ELEMENT];
-    let number = expect_spread(bench, element);
-    let given = morphology::dilate(octagon(bench, OPERANDS + 16), octagon(bench, THIRD));
-    let is_expected = is_spread(bench, given);
-    expect_both(bench, if number == 0 { plot } else { number });
-    let answer = opened(octagon(bench, OPERANDS), given);
-    tally::note(
-        bench,
-        OPEN_BY_BOTH,
-        is_expected & is_spread(bench, answer) & is_less(bench),
-    );
-    choose_third(bench, place, element);
+// The spread of the element with the third octagon, and the plot opened by what it gave, beside what is expected of them; and the opening
+// inside the one by the element alone. A refusal of the spread is the answer of the two.
+pub fn compare(tally: &mut Tally, pair: &Pair, third: &Operand, alone: &Result<Marked, Refusal>) {
+    let element = pair.element.octagon();
+    let spread = expect_spread(&pair.element, third);
+    let given_spread = dilate(element, third.octagon());
+
+    let middle = pair.element.cells.middle + third.cells.middle;
+    let opened = spread.and_then(|by| expect_opened(&pair.plot, &Set::within(&by.bounds, middle)));
+    let given_opened = given_spread.and_then(|by| opening(pair.plot.octagon(), by.octagon()));
+
+    let is_expected = spread == given_spread.map(Marked::from)
+        && opened == given_opened.map(Marked::from)
+        && is_less(&opened, alone, pair.plot.cells.middle);
+    tally.note(Call::OpenByBoth, &opened, is_expected);
 }

@@ -3,87 +3,97 @@
 // A plot is at most 8 cells from its window's middle, and an element at most 4: four folds stay in the window.
 ghost use Rattle.std.specs.Prelude.{◌<◌};
 
-use crate::bench::{BOUNDS, Bench, DRAWS, LIFT, OPERANDS, get};
-use crate::grid::{MIDDLE, START};
-use crate::{grid, pieces, sets, walks};
+use crate::bounds::Bounds;
+use crate::cells::Cell;
+use crate::operands::{Operand, Pair};
+use crate::outlines::Outline;
+use crate::pieces::{PIECES, Piece, Pieces};
 
-const MODULUS: usize = 2147483648;
+const MODULUS: u32 = 2147483648;
 
-// The next ten draws.
-fn refill(bench: &mut Bench) {
-    let mut s = bench[DRAWS];
-    let mut i = 1;
-    while i < 11 {
-        s = (s % MODULUS * 1103515245 + 12345) % MODULUS;
-        bench[DRAWS + i] = s / 65536 % 256;
-        i += 1;
-    }
-    bench[DRAWS] = s;
+#[derive(Drop)]
+pub struct Draws {
+    state: u32,
 }
 
-// Where a window begins: some steps from the map's middle line, or near the map's edge.
-fn start(draw: usize) -> usize {
-    let n = draw / 16 % 16;
+// A coordinate of a window's middle: some steps from the map's middle line, or near the map's edge.
+fn coordinate(draw: u8) -> i32 {
+    let n = i32::from(draw / 16);
     match draw % 16 {
-        0 => START + 15992 + n,
-        1 => START - 15992 - n,
-        _ => START + n - 7,
+        0 => 15992 + n,
+        1 => -15992 - n,
+        _ => n - 7,
     }
 }
 
 // A piece: K2 or K4 in one draw of four, so that there are diagonal rows.
-fn piece(draw: usize) -> usize {
-    let n = draw / 4 % 13;
-    if draw % 4 == 0 { n % 2 * 2 + 1 } else { n }
+fn piece(draw: u8) -> Piece {
+    let n = usize::from(draw / 4 % 13);
+    match draw % 4 {
+        0 if n % 2 == 0 => Piece::K2,
+        0 => Piece::K4,
+        _ => PIECES[n],
+    }
 }
 
 // Bound k as it is, or raised where the choice is its parity, or lowered.
-fn altered(c: usize, k: usize, choice: usize, draw: usize) -> usize {
+fn altered(c: i64, k: usize, choice: u8, draw: u8) -> i64 {
     if choice == 7 {
-        return std::num::wrapping_sub_usize(c, draw % 3);
+        return c.wrapping_sub(i64::from(draw % 3));
     }
-    if choice != k % 2 {
+    if usize::from(choice) != k % 2 {
         return c;
     }
     if draw % 8 == 0 {
-        return LIFT + 2147483647;
+        return i64::from(i32::MAX);
     }
-    std::num::wrapping_add_usize(c, draw / 8 % 4)
+    c.wrapping_add(i64::from(draw / 8 % 4))
 }
 
-// Makes an operand of the bounds, altered.
-fn put_operand(bench: &mut Bench, set: usize)
-    requires { set < 2 }
-{
-    let choice = bench[DRAWS + 5] % 8;
-    let mut k = 0;
-    while k < 8 {
-        let c = altered(bench[BOUNDS + k], k, choice, bench[DRAWS + 8 + k % 3]);
-        bench[OPERANDS + set * 16 + k] = c;
-        k += 1;
+impl Draws {
+    pub fn new() -> Draws {
+        Draws { state: 0 }
     }
-}
 
-// Makes the bounds those of two pieces, each fewer than `most` times, and gives the place of their window.
-fn bound_pieces(bench: &mut Bench, most: usize) -> usize
-    requires { 0 < most }
-{
-    let place = grid::place_at(start(get(bench, DRAWS, 6)), start(get(bench, DRAWS, 7)));
-    let a = piece(get(bench, DRAWS, 1));
-    let b = piece(get(bench, DRAWS, 3));
-    let m = get(bench, DRAWS, 2) % most;
-    let n = get(bench, DRAWS, 4) % most;
-    pieces::put_sides(bench, a, m, b, n);
-    walks::bound_inside(bench, place, MIDDLE);
-    place
-}
+    fn draw(&mut self) -> u8 {
+        self.state = self.state.wrapping_mul(1103515245).wrapping_add(12345) % MODULUS;
+        (self.state / 65536 % 256) as u8
+    }
 
-// Makes an operand and its set. A plot has each piece at most twice, an element at most once.
-pub fn draw(bench: &mut Bench, set: usize)
-    requires { set < 2 }
-{
-    refill(bench);
-    let place = bound_pieces(bench, 3 - set);
-    put_operand(bench, set);
-    sets::enumerate(bench, OPERANDS + set * 16, set, place);
+    // An octagon of two pieces, each fewer than `most` times, with its bounds altered. It takes ten draws.
+    fn operand(&mut self, most: u8) -> Operand
+        requires { 0 < most }
+    {
+        let one = piece(self.draw());
+        let ones = self.draw() % most;
+        let other = piece(self.draw());
+        let others = self.draw() % most;
+        let choice = self.draw() % 8;
+        let x = coordinate(self.draw());
+        let y = coordinate(self.draw());
+        let by = [self.draw(), self.draw(), self.draw()];
+        let pieces = Pieces {
+            one,
+            ones,
+            other,
+            others,
+        };
+        let start = Cell { x, y };
+        let outline = Outline {
+            start,
+            sides: pieces.sides(),
+        };
+        let mut bounds = outline.bounds().0;
+        for k in 0..8 {
+            bounds[k] = altered(bounds[k], k, choice, by[k % 3]);
+        }
+        Operand::new(Bounds(bounds), start)
+    }
+
+    // A plot has each piece at most twice, an element at most once.
+    pub fn pair(&mut self) -> Pair {
+        let plot = self.operand(3);
+        let element = self.operand(2);
+        Pair { plot, element }
+    }
 }

@@ -1,59 +1,78 @@
 // One octagon by itself: its normal form, its cell count, its outline and a corner beside the enumerated set.
-ghost use Rattle.std.specs.Prelude.{◌<◌};
+use crate::answers::{Marked, smallest};
+use crate::bounds::Bounds;
+use crate::calls::Call;
+use crate::cells::Cell;
+use crate::outlines::Outline;
+use crate::places::cell_at;
+use crate::sets::Set;
+use crate::tally::Tally;
+use cell_count::count_cells;
+use octagon::{Octagon, Refusal, normalise};
+use outline::{to_outline, vertex_place};
 
-use crate::bench::{Bench, EXPECTED, OPERANDS, OUTLINE, PAIR, ZEROS};
-use crate::tally::{COUNT_CELLS, NORMALISE, TO_OUTLINE};
-use crate::{answers, corners, outlines, sets, tally, walks};
-use cell_count::Count;
-use octagon::Octagon;
+// An octagon, its cells, and what is expected of its normal form.
+#[derive(Clone, Copy)]
+pub struct Operand {
+    pub bounds: Bounds,
+    pub cells: Set,
+    pub normal: Result<Marked, Refusal>,
+}
 
-fn is_count(bench: &Bench, given: Count) -> bool {
-    match given {
-        Count::Cells(n) => (0 < n) & (n as usize == bench[EXPECTED]),
-        Count::Refused(n) => answers::is_refused(bench, n),
+// A plot and an element.
+#[derive(Clone, Copy)]
+pub struct Pair {
+    pub plot: Operand,
+    pub element: Operand,
+}
+
+impl Operand {
+    // The octagon of bounds whose cells are all in the window about a middle.
+    pub fn new(bounds: Bounds, middle: Cell) -> Operand {
+        let cells = Set::within(&bounds, middle);
+        Operand {
+            bounds,
+            cells,
+            normal: smallest(&cells, Refusal::NoCell),
+        }
+    }
+
+    pub fn octagon(&self) -> Octagon {
+        self.bounds.octagon()
+    }
+
+    // What is expected of its outline.
+    pub fn outline(&self) -> Result<Outline, Refusal> {
+        self.normal?;
+        Outline::round(&self.cells).ok_or(Refusal::NoCell)
+    }
+
+    // What is expected of a corner: that of the outline, of which there are eight.
+    fn corner(&self, k: u32) -> Result<Cell, Refusal> {
+        let outline = self.outline()?;
+        if 7 < k {
+            return Err(Refusal::NoVertex);
+        }
+        Ok(outline.corner(k as usize))
     }
 }
 
-// Whether the library's answer to a call on an octagon is the one expected.
-fn agrees(bench: &Bench, call: usize, o: Octagon) -> bool {
-    match call {
-        NORMALISE => answers::is_answer(bench, octagon::normalise(o)),
-        COUNT_CELLS => is_count(bench, cell_count::count_cells(o)),
-        TO_OUTLINE => outlines::is_outline(bench, outline::to_outline(o)),
-        _ => corners::is_place(bench, outline::vertex_place(o, (bench[PAIR] % 9) as u32)),
-    }
-}
+// The normal form and the calls after it, of which each is refused as the normal form is. The corner is the one with the pair's number, of
+// nine, of which the last is refused.
+pub fn compare(tally: &mut Tally, operand: &Operand) {
+    let o = operand.octagon();
+    let normal = normalise(o).map(Marked::from);
+    tally.compare(Call::Normalise, &operand.normal, &normal);
 
-// Expects the answer of a call on an octagon whose normal form is accepted.
-fn expect(bench: &mut Bench, call: usize, set: usize)
-    requires { set < 4 }
-{
-    match call {
-        COUNT_CELLS => {
-            answers::expect_row(bench, ZEROS, 0);
-            bench[EXPECTED] = sets::count(bench, set);
-        }
-        TO_OUTLINE => {
-            walks::put_outline(bench, set);
-            answers::expect_row(bench, OUTLINE, 0);
-        }
-        _ => corners::expect(bench, set),
-    }
-}
+    let count = operand.normal.map(|_| operand.cells.count());
+    let counted = count_cells(o).map(|n| n as usize);
+    tally.compare(Call::CountCells, &count, &counted);
 
-// The normal form and the calls after it, of which each is refused as the normal form is. Gives its refusal number, or 0.
-pub fn compare(bench: &mut Bench, set: usize) -> usize
-    requires { set < 2 }
-{
-    let o = answers::octagon(bench, OPERANDS + set * 16);
-    let number = answers::expect(bench, set, answers::NO_CELL);
-    let mut call = NORMALISE;
-    while call < 4 {
-        if (number == 0) & (NORMALISE < call) {
-            expect(bench, call, set);
-        }
-        tally::note(bench, call, agrees(bench, call, o));
-        call += 1;
-    }
-    number
+    let outline = to_outline(o).map(Outline::from);
+    tally.compare(Call::ToOutline, &operand.outline(), &outline);
+
+    let k = tally.pair % 9;
+    let corner = operand.corner(k);
+    let is_there = corner.map(Some) == vertex_place(o, k).map(cell_at);
+    tally.note(Call::VertexPlace, &corner, is_there);
 }

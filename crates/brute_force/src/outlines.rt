@@ -1,87 +1,113 @@
-// Outlines to octagons and back, beside walks on the enumerated cells.
-ghost use Rattle.std.specs.Prelude.{◌<◌};
+// Outlines, their walks by document 01's steps, and the octagons inside them beside the enumerated cells.
+use crate::answers::{Marked, smallest};
+use crate::bounds::Bounds;
+use crate::calls::Call;
+use crate::cells::{Cell, STEPS};
+use crate::operands::Operand;
+use crate::sets::{Set, WIDTH};
+use crate::tally::Tally;
+use octagon::Refusal;
+use outline::to_octagon;
 
-use crate::answers::is_signed;
-use crate::bench::{BOUNDS, Bench, EXPECTED, OUTLINE, PAIR, PLACES, PLOT, RESULT, get, lowered};
-use crate::{answers, sets, tally, walks};
-use outline::{Outline, Outlined};
-
-fn is_side(bench: &Bench, k: usize, n: u32) -> bool
-    requires { k < 16 }
-{
-    get(bench, EXPECTED, k) == n as usize
+// The start, and the sides n0 to n7.
+#[derive(Clone, Copy, PartialEq, Eq)]
+pub struct Outline {
+    pub start: Cell,
+    pub sides: [u32; 8],
 }
 
-fn has_sides(bench: &Bench, o: Outline) -> bool {
-    is_side(bench, 0, o.n0)
-        & is_side(bench, 1, o.n1)
-        & is_side(bench, 2, o.n2)
-        & is_side(bench, 3, o.n3)
-        & is_side(bench, 4, o.n4)
-        & is_side(bench, 5, o.n5)
-        & is_side(bench, 6, o.n6)
-        & is_side(bench, 7, o.n7)
+// How many steps from a cell stay in a set.
+fn length(cells: &Set, start: Cell, step: Cell) -> u32 {
+    let mut here = start;
+    for n in 0..WIDTH as u32 {
+        here = here + step;
+        if !cells.has(here) {
+            return n;
+        }
+    }
+    WIDTH as u32
 }
 
-// Whether the library's answer is the outline expected.
-pub fn is_outline(bench: &Bench, given: Outlined) -> bool {
-    match given {
-        Outlined::Outline(o) => has_sides(bench, o)
-            & is_signed(bench, 8, o.i)
-            & is_signed(bench, 9, o.j),
-        Outlined::Refused(n) => answers::is_refused(bench, n),
+impl Outline {
+    // The walk round a set, along its own cells, from its lowest cell, and of the lowest the leftmost. A set with no cell has none.
+    pub fn round(cells: &Set) -> Option<Outline> {
+        let start = cells.lowest()?;
+        let mut sides = [0; 8];
+        let mut here = start;
+        for (side, step) in sides.iter_mut().zip(STEPS) {
+            *side = length(cells, here, step);
+            here = here.walked(step, *side);
+        }
+        Some(Outline { start, sides })
+    }
+
+    // Where the walk is after k sides.
+    pub fn corner(&self, k: usize) -> Cell {
+        let mut here = self.start;
+        for (step, side) in STEPS.iter().zip(&self.sides).take(k) {
+            here = here.walked(*step, *side);
+        }
+        here
+    }
+
+    // Whether the walk ends at its start.
+    fn closes(&self) -> bool {
+        self.corner(8) == self.start
+    }
+
+    // The bounds of the cells inside: the cells on or to the left of each side. The side from corner k along dk has on its left the cells
+    // at which the left side of inequality k is no greater than at the corner.
+    pub fn bounds(&self) -> Bounds {
+        let mut bounds = [0; 8];
+        for k in 0..8 {
+            bounds[k] = self.corner(k).forms()[k];
+        }
+        Bounds(bounds)
+    }
+
+    // Makes one side longer, so that the outline does not close; or two opposite sides; or none.
+    fn lengthen(&mut self, choice: usize) {
+        let k = choice % 8;
+        if choice < 16 {
+            self.sides[k] = self.sides[k].wrapping_add(1);
+        }
+        if choice / 8 == 1 {
+            let opposite = (k + 4) % 8;
+            self.sides[opposite] = self.sides[opposite].wrapping_add(1);
+        }
     }
 }
 
-fn side(bench: &Bench, k: usize) -> u32
-    requires { k < 16 }
-{
-    (get(bench, OUTLINE, k) % 65536) as u32
-}
-
-// The outline as the library takes it.
-fn outline(bench: &Bench) -> Outline {
-    Outline {
-        i: lowered(get(bench, OUTLINE, 8)),
-        j: lowered(get(bench, OUTLINE, 9)),
-        n0: side(bench, 0),
-        n1: side(bench, 1),
-        n2: side(bench, 2),
-        n3: side(bench, 3),
-        n4: side(bench, 4),
-        n5: side(bench, 5),
-        n6: side(bench, 6),
-        n7: side(bench, 7),
+impl From<Outline> for outline::Outline {
+    fn from(o: Outline) -> outline::Outline {
+        outline::Outline::with_sides(o.start.x, o.start.y, o.sides)
     }
 }
 
-// Makes one side of the outline longer, so that it does not close; or two opposite sides; or none.
-fn lengthen(bench: &mut Bench, choice: usize) {
-    let k = OUTLINE + choice % 8;
-    let opposite = OUTLINE + (choice % 8 + 4) % 8;
-    bench[k] = std::num::wrapping_add_usize(bench[k], (choice < 16) as usize);
-    bench[opposite] = std::num::wrapping_add_usize(bench[opposite], (choice / 8 == 1) as usize);
+impl From<outline::Outline> for Outline {
+    fn from(o: outline::Outline) -> Outline {
+        Outline {
+            start: Cell { x: o.i, y: o.j },
+            sides: o.sides(),
+        }
+    }
 }
 
-// Expects the octagon of the cells inside the outline; refused where the walk does not end at its start.
-fn expect_inside(bench: &mut Bench) {
-    let place = bench[PLACES + PLOT];
-    if walks::bound_inside(bench, place, walks::lowest(bench, PLOT)) {
-        sets::enumerate(bench, BOUNDS, RESULT, place);
-        answers::expect(bench, RESULT, answers::NO_CELL);
-    } else {
-        answers::expect_row(bench, BOUNDS, answers::NOT_CLOSED);
+// Expects the octagon of the cells inside an outline; refused where the walk does not end at its start.
+fn expect_inside(outline: &Outline, middle: Cell) -> Result<Marked, Refusal> {
+    if !outline.closes() {
+        return Err(Refusal::NotClosed);
     }
+    let inside = Set::within(&outline.bounds(), middle);
+    smallest(&inside, Refusal::NoCell)
 }
 
 // An outline to an octagon: the walk round the plot's cells, where it has some, lengthened.
-pub fn compare_back(bench: &mut Bench) {
-    if sets::count(bench, PLOT) != 0 {
-        let choice = bench[PAIR] % 20;
-        walks::put_outline(bench, PLOT);
-        lengthen(bench, choice);
-        expect_inside(bench);
-        let agrees = answers::is_answer(bench, outline::to_octagon(outline(bench)));
-        tally::note(bench, tally::TO_OCTAGON, agrees);
+pub fn compare_back(tally: &mut Tally, plot: &Operand) {
+    if let Some(mut outline) = Outline::round(&plot.cells) {
+        outline.lengthen((tally.pair % 20) as usize);
+        let expected = expect_inside(&outline, plot.cells.middle);
+        let given = to_octagon(outline::Outline::from(outline)).map(Marked::from);
+        tally.compare(Call::ToOctagon, &expected, &given);
     }
 }

@@ -1,155 +1,148 @@
-// Sets of cells, each cell looked at by itself: the cells within bounds, sums, and positions that fit.
+// Sets of cells, each cell looked at by itself, in a square window of WIDTH by WIDTH cells, which stands anywhere on the map or off it.
+//
+// Cell k of a window is k % WIDTH east and k / WIDTH north of its lowest left cell. No cell off its window is in a set.
 ghost use Rattle.std.specs.Prelude.{◌<◌};
 
-use crate::bench::{BOUNDS, Bench, ELEMENT, NEXT, PLACES, RESULT, SETS, SPAN};
-use crate::grid;
-use crate::grid::SIZE;
+use crate::bounds::Bounds;
+use crate::cells::Cell;
 
-// Where the sets that are folded begin.
-const OF_ELEMENT: usize = SETS + ELEMENT * SPAN;
+const REACH: i32 = 24;
 
-const OF_RESULT: usize = SETS + RESULT * SPAN;
+pub const WIDTH: usize = 49;
 
-const OF_NEXT: usize = SETS + NEXT * SPAN;
+const SIZE: usize = 2401;
 
-// Whether a cell of the window at a place is within the bounds of a row.
-fn contains(bench: &Bench, row: usize, place: usize, cell: usize) -> bool
-    requires { row < 448 }
-{
-    let mut k = 0;
-    while k < 8 {
-        if bench[row + k] < grid::form(k, place, cell) {
-            return false;
+#[derive(Clone, Copy)]
+pub struct Set {
+    pub middle: Cell,
+    cells: [bool; SIZE],
+}
+
+impl Set {
+    fn empty(middle: Cell) -> Set {
+        Set {
+            middle,
+            cells: [false; SIZE],
         }
-        k += 1;
     }
-    true
-}
 
-// Makes a set the cells within the bounds of a row, in the window at a place.
-pub fn enumerate(bench: &mut Bench, row: usize, set: usize, place: usize)
-    requires row_bound { row < 448 }
-    requires set_bound { set < 4 }
-{
-    bench[PLACES + set] = place;
-    let mut i = 0;
-    while i < SIZE {
-        bench[SETS + set * SPAN + i] = contains(bench, row, place, i) as usize;
-        i += 1;
+    // One cell, in the window about a middle.
+    pub fn one(cell: Cell, middle: Cell) -> Set {
+        let mut set = Set::empty(middle);
+        set.insert(cell);
+        set
     }
-}
 
-// Whether a set has just the cells within the bounds of a row.
-pub fn is_within(bench: &Bench, row: usize, set: usize) -> bool
-    requires row_bound { row < 448 }
-    requires set_bound { set < 4 }
-{
-    let place = bench[PLACES + set];
-    let mut i = 0;
-    while i < SIZE {
-        if bench[SETS + set * SPAN + i] != contains(bench, row, place, i) as usize {
-            return false;
+    // The cells within bounds, in the window about a middle.
+    pub fn within(bounds: &Bounds, middle: Cell) -> Set {
+        let mut set = Set::empty(middle);
+        for k in 0..SIZE {
+            set.cells[k] = bounds.contains(set.cell(k));
         }
-        i += 1;
+        set
     }
-    true
-}
 
-// Whether every cell within the bounds of one row is within those of another, in the window at a place.
-pub fn is_inside(bench: &Bench, inner: usize, outer: usize, place: usize) -> bool
-    requires inner_bound { inner < 448 }
-    requires outer_bound { outer < 448 }
-{
-    let mut i = 0;
-    while i < SIZE {
-        if contains(bench, inner, place, i) & !contains(bench, outer, place, i) {
-            return false;
+    // Cell k of the window.
+    fn cell(&self, k: usize) -> Cell
+        requires { k < SIZE }
+    {
+        let x = (k % WIDTH) as i32 - REACH;
+        let y = (k / WIDTH) as i32 - REACH;
+        self.middle + Cell { x, y }
+    }
+
+    // The number of a cell of the window.
+    fn index(&self, cell: Cell) -> Option<usize> {
+        let Cell { x, y } = cell - self.middle + Cell { x: REACH, y: REACH };
+        let column = usize::try_from(x).ok()?;
+        let row = usize::try_from(y).ok()?;
+        (column < WIDTH && row < WIDTH).then_some(row * WIDTH + column)
+    }
+
+    pub fn has(&self, cell: Cell) -> bool {
+        self.index(cell).and_then(|k| self.cells.get(k)) == Some(&true)
+    }
+
+    fn insert(&mut self, cell: Cell) {
+        if let Some(k) = self.index(cell) {
+            if let Some(is_in) = self.cells.get_mut(k) {
+                *is_in = true;
+            }
         }
-        i += 1;
     }
-    true
-}
 
-// The number of cells of a set.
-pub fn count(bench: &Bench, set: usize) -> usize
-    requires { set < 4 }
-{
-    let mut n: usize = 0;
-    let mut i = 0;
-    while i < SIZE {
-        if bench[SETS + set * SPAN + i] == 1 {
-            n += 1;
+    // The number of cells.
+    pub fn count(&self) -> usize {
+        self.cells.iter().filter(|is_in| **is_in).count()
+    }
+
+    // The lowest cell, and of the lowest the leftmost.
+    pub fn lowest(&self) -> Option<Cell> {
+        let k = self.cells.iter().position(|is_in| *is_in)?;
+        Some(self.cell(k))
+    }
+
+    // The tightest bounds: the greatest that each left side is on a cell.
+    pub fn tightest(&self) -> Option<Bounds> {
+        let mut most = self.lowest()?.forms();
+        for (k, is_in) in self.cells.iter().enumerate() {
+            if *is_in {
+                for (bound, form) in most.iter_mut().zip(self.cell(k).forms()) {
+                    *bound = form.max(*bound);
+                }
+            }
         }
-        i += 1;
+        Some(Bounds(most))
     }
-    n
-}
 
-fn greater(a: usize, b: usize) -> usize {
-    if a < b { b } else { a }
-}
+    // Whether the cells are just those of the window that are within bounds.
+    pub fn is_just(&self, bounds: &Bounds) -> bool {
+        (0..SIZE).all(|k| self.cells[k] == bounds.contains(self.cell(k)))
+    }
 
-// The greatest that the left side of inequality k is on a set, or 0 where the set has no cell.
-fn greatest(bench: &Bench, set: usize, k: usize) -> usize
-    requires { set < 4 }
-{
-    let place = bench[PLACES + set];
-    let mut most = 0;
-    let mut i = 0;
-    while i < SIZE {
-        if bench[SETS + set * SPAN + i] == 1 {
-            most = greater(most, grid::form(k, place, i));
+    // Whether each cell is within bounds.
+    pub fn is_inside(&self, bounds: &Bounds) -> bool {
+        (0..SIZE).all(|k| !self.cells[k] || bounds.contains(self.cell(k)))
+    }
+
+    // The sums of a cell of each.
+    pub fn dilated(&self, element: &Set) -> Set {
+        let mut sums = Set::empty(self.middle + element.middle);
+        for (k, is_in) in element.cells.iter().enumerate() {
+            if *is_in {
+                sums.add_moved(self, element.cell(k));
+            }
         }
-        i += 1;
+        sums
     }
-    most
-}
 
-// Makes the bounds the tightest round a set.
-pub fn tighten(bench: &mut Bench, set: usize)
-    requires { set < 4 }
-{
-    let mut k = 0;
-    while k < 8 {
-        bench[BOUNDS + k] = greatest(bench, set, k);
-        k += 1;
-    }
-}
-
-// Every cell beside one of the element: a dilation has its sum if it is in the result, an erosion keeps it if its sum is.
-fn visit(bench: &mut Bench, erodes: bool, by: usize) {
-    let mut i = 0;
-    while i < SIZE {
-        if erodes {
-            let to = grid::sum(i, by);
-            bench[OF_NEXT + i] = bench[OF_NEXT + i] & bench[OF_RESULT + to];
-        } else if bench[OF_RESULT + i] == 1 {
-            let to = grid::sum(i, by);
-            bench[OF_NEXT + to] = 1;
+    // Adds the cells of a set, each moved by a cell.
+    fn add_moved(&mut self, set: &Set, by: Cell) {
+        for (k, is_in) in set.cells.iter().enumerate() {
+            if *is_in {
+                self.insert(set.cell(k) + by);
+            }
         }
-        i += 1;
     }
-}
 
-// Dilates the result once by the element: the sums of a cell of each. Or erodes it once: the positions p with p + f in the result for
-// every cell f of the element.
-pub fn fold(bench: &mut Bench, erodes: bool) {
-    let mut i = 0;
-    while i < SIZE {
-        bench[OF_NEXT + i] = erodes as usize;
-        i += 1;
-    }
-    let mut f = 0;
-    while f < SIZE {
-        if bench[OF_ELEMENT + f] == 1 {
-            visit(bench, erodes, f);
+    // The positions p with p + f in the set for every cell f of the element.
+    pub fn eroded(&self, element: &Set) -> Set {
+        let mut left = Set {
+            middle: self.middle - element.middle,
+            cells: [true; SIZE],
+        };
+        for (k, is_in) in element.cells.iter().enumerate() {
+            if *is_in {
+                left.keep_moved(self, element.cell(k));
+            }
         }
-        f += 1;
+        left
     }
-    let mut j = 0;
-    while j < SIZE {
-        bench[OF_RESULT + j] = bench[OF_NEXT + j];
-        j += 1;
+
+    // Keeps the positions that are in a set when they are moved by a cell.
+    fn keep_moved(&mut self, set: &Set, by: Cell) {
+        for k in 0..SIZE {
+            self.cells[k] = self.cells[k] && set.has(self.cell(k) + by);
+        }
     }
-    bench[PLACES + RESULT] = grid::moved(erodes, bench[PLACES + RESULT], bench[PLACES + ELEMENT]);
 }

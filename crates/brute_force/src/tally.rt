@@ -1,155 +1,138 @@
-// The tally of the comparisons, in the bench's first rows, one for each call.
-ghost use Rattle.std.specs.Prelude.{◌<◌};
+// The tally of the comparisons, a row for each call.
+use crate::calls::{CALLS, Call};
+use crate::numbers::Numbers;
+use octagon::Refusal;
+use std::fmt;
 
-use crate::bench::{Bench, EXPECTED, MARK, NUMBER, PAIR, get};
+const PRIME: u64 = 1000000007;
 
-// The descriptor of standard output.
-const STDOUT_FILENO: i32 = 1;
+// The refusals that are expected of the calls.
+const REFUSALS: [Refusal; 6] = [
+    Refusal::NoCell,
+    Refusal::OffMap,
+    Refusal::NotClosed,
+    Refusal::NothingLeft,
+    Refusal::TooManyFolds,
+    Refusal::NoVertex,
+];
 
-pub const NORMALISE: usize = 0;
+#[derive(Clone, Copy)]
+struct Row {
+    // How often the call was expected to be accepted, and how many of these were filled.
+    accepted: u64,
+    filled: u64,
+    // How often it was to be refused, for each of the refusals.
+    refused: [u64; 6],
+    // How many answers agreed.
+    agreed: u64,
+    // A digest of what was expected.
+    digest: u64,
+}
 
-pub const COUNT_CELLS: usize = 1;
+impl Row {
+    const EMPTY: Row = Row {
+        accepted: 0,
+        filled: 0,
+        refused: [0; 6],
+        agreed: 0,
+        digest: 0,
+    };
 
-pub const TO_OUTLINE: usize = 2;
-
-pub const VERTEX_PLACE: usize = 3;
-
-pub const TO_OCTAGON: usize = 4;
-
-pub const DECOMPOSE: usize = 5;
-
-// An operation that begins with an erosion stands after the one that begins with a dilation.
-pub const DILATE: usize = 6;
-
-pub const ERODE: usize = 7;
-
-pub const CLOSING: usize = 8;
-
-pub const OPENING: usize = 9;
-
-pub const DILATE_N: usize = 10;
-
-// Two calls one after the other.
-pub const DILATE_M_N: usize = 12;
-
-pub const ERODE_M_N: usize = 13;
-
-// The plot opened by the element spread with the third octagon.
-pub const OPEN_BY_BOTH: usize = 14;
-
-pub const CALLS: usize = 15;
-
-// A call's numbers: how often it was expected to be accepted, how many of these were filled, and how often it was to be refused with each
-// number; how many answers agreed; a digest of what was expected.
-const FILLED: usize = 1;
-
-const AGREED: usize = 8;
-
-const DIGEST: usize = 9;
-
-const COLUMNS: usize = 10;
-
-const PRIME: usize = 1000000007;
-
-// Mixes the first n numbers of a row into the digest of a call.
-pub fn mix(bench: &mut Bench, call: usize, row: usize, n: usize)
-    requires call_bound { call < 15 }
-    requires row_bound { row < 448 }
-    requires n_bound { n < 16 }
-{
-    let mut digest = get(bench, call * 16, DIGEST);
-    let mut k = 0;
-    while k < n {
-        digest = (digest % PRIME * 31 + bench[row + k] % PRIME) % PRIME;
-        k += 1;
+    fn mix(&mut self, n: u64) {
+        self.digest = (self.digest % PRIME * 31 + n % PRIME) % PRIME;
     }
-    bench[call * 16 + DIGEST] = digest;
-}
 
-// Writes one of the names, each of 12 bytes.
-fn write_part(names: &[u8], call: usize) {
-    let from = call % CALLS * 12;
-    if from + 12 <= names.len() {
-        io::write_all(STDOUT_FILENO, &names[from..from + 12]);
+    // Counts a refusal that was expected.
+    fn refuse(&mut self, refusal: Refusal) {
+        for (named, times) in REFUSALS.iter().zip(&mut self.refused) {
+            if *named == refusal {
+                *times = times.wrapping_add(1);
+            }
+        }
     }
-}
 
-fn write_name(call: usize) {
-    write_part(
-        b"normalise   count_cells to_outline  vertex_placeto_octagon  decompose   dilate      erode       closing     opening     dilate_n    erode_n     dilate_m_n  erode_m_n   open_by_both",
-        call,
-    );
-}
-
-fn write_number(n: usize) {
-    io::write_all(STDOUT_FILENO, b" ");
-    io::print_decimal(STDOUT_FILENO, n as u64);
-}
-
-fn write_disagreement(call: usize, pair: usize) {
-    io::write_all(STDOUT_FILENO, b"disagree ");
-    write_name(call);
-    write_number(pair);
-    io::write_all(STDOUT_FILENO, b"\n");
-}
-
-// The column of a refusal number, or of 0 for an accepted call. No call is refused with 4.
-fn column(number: usize) -> usize
-    ensures { result < 8 }
-{
-    match number {
-        1 => 2,
-        2 => 3,
-        3 => 4,
-        _ => number % 8,
+    // Mixes what is expected into the digest: ten numbers, then the refusal number, or 0, and last 1 for an octagon that is filled.
+    fn note<T: Numbers>(&mut self, expected: &Result<T, Refusal>, agrees: bool) {
+        let (numbers, refusal, is_filled) = match expected {
+            Ok(answer) => {
+                self.accepted = self.accepted.wrapping_add(1);
+                (answer.numbers(), 0, answer.is_filled())
+            }
+            Err(refusal) => {
+                self.refuse(*refusal);
+                ([0; 10], refusal.number(), false)
+            }
+        };
+        for n in numbers {
+            self.mix(n);
+        }
+        self.mix(u64::from(refusal));
+        self.mix(u64::from(is_filled));
+        self.filled = self.filled.wrapping_add(u64::from(is_filled));
+        self.agreed = self.agreed.wrapping_add(u64::from(agrees));
     }
 }
 
-// Adds to one of the numbers of a call.
-fn add(bench: &mut Bench, call: usize, k: usize, n: usize)
-    requires call_bound { call < 15 }
-    requires k_bound { k < 16 }
-{
-    bench[call * 16 + k] = std::num::wrapping_add_usize(get(bench, call * 16, k), n);
-}
-
-// Notes whether the answer to a call agrees with what is expected.
-pub fn note(bench: &mut Bench, call: usize, agrees: bool)
-    requires { call < 15 }
-{
-    let mark = bench[MARK];
-    let answer = column(bench[NUMBER]);
-    mix(bench, call, EXPECTED, 12);
-    add(bench, call, answer, 1);
-    add(bench, call, FILLED, mark);
-    add(bench, call, AGREED, agrees as usize);
-    if !agrees {
-        write_disagreement(call, get(bench, PAIR, 0));
+impl fmt::Display for Row {
+    fn fmt<W: fmt::Write>(&self, f: &mut fmt::Formatter<W>) -> fmt::Result {
+        write!(f, "{} {}", self.accepted, self.filled)?;
+        for n in self.refused {
+            write!(f, " {n}")?;
+        }
+        write!(f, " {} {}", self.agreed, self.digest)
     }
 }
 
-// Writes the line of a call.
-fn write_call(bench: &Bench, call: usize)
-    requires { call < 15 }
-{
-    write_name(call);
-    let mut k = 0;
-    while k < COLUMNS {
-        write_number(get(bench, call * 16, k));
-        k += 1;
-    }
-    io::write_all(STDOUT_FILENO, b"\n");
+#[derive(Drop)]
+pub struct Tally {
+    rt: HostRuntime,
+    // The number of the pair at hand.
+    pub pair: u32,
+    rows: [Row; 15],
 }
 
-// Writes the line of each call.
-pub fn write_calls(bench: &Bench) {
-    io::write_all(
-        STDOUT_FILENO,
-        b"call         accepted, of these filled, refused with 1, 2, 3, 5, 6, 7, agreed, digest\n",
-    );
-    let mut call = 0;
-    while call < CALLS {
-        write_call(bench, call);
-        call += 1;
+// A line that cannot be written is left out, and the status is 0 all the same.
+impl Tally {
+    pub fn new(rt: HostRuntime) -> Tally {
+        Tally {
+            rt,
+            pair: 0,
+            rows: [Row::EMPTY; 15],
+        }
+    }
+
+    // Notes whether the answer to a call agrees with what is expected.
+    pub fn note<T: Numbers>(&mut self, call: Call, expected: &Result<T, Refusal>, agrees: bool) {
+        self.rows[call as usize].note(expected, agrees);
+        if !agrees {
+            let _ = println!(self.rt; "disagree {:<12} {}", call.name(), self.pair);
+        }
+    }
+
+    // Notes the answer to a call beside what is expected.
+    pub fn compare<T: Numbers + PartialEq>(
+        &mut self,
+        call: Call,
+        expected: &Result<T, Refusal>,
+        given: &Result<T, Refusal>,
+    ) {
+        self.note(call, expected, expected == given);
+    }
+
+    // Mixes more of what is expected into the digest of a call.
+    pub fn mix(&mut self, call: Call, numbers: &[u32]) {
+        for n in numbers {
+            self.rows[call as usize].mix(u64::from(*n));
+        }
+    }
+
+    // Prints the line of each call.
+    pub fn print(&self) {
+        let _ = println!(self.rt;
+            "call         accepted, of these filled, refused with 1, 2, 3, 5, 6, 7, agreed, digest"
+        );
+        for call in CALLS {
+            let _ = println!(self.rt; "{:<12} {}", call.name(), self.rows[call as usize]);
+        }
     }
 }

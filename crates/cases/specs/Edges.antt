@@ -1,7 +1,7 @@
 -- Cells on each of the four edges of the map and one step past them, by one computed test: "both coordinates from -16,000 to 16,000".
 -- Assumes nothing.
 use Rattle.std.specs.Prelude.{◌≡◌, true, false, List, [], ◌∷◌, ◌++◌, map, ℤ, pos, ◌+ℤ◌, ◌-ℤ◌, neg_ℤ, refl}
-use Rattle.octagon.specs.declared.Octagon.{Octagon}
+use Rattle.octagon.specs.Octagon.{Octagon}
 use Rattle.octagon.specs.Outcome.{Outcome, accepted, refused}
 use Rattle.integers.specs.Minimum.{min_ℤ, half_ℤ}
 use Rattle.octagon.specs.NormalForm.{are_within_limit, even_bound, odd_bound, tight_even, tight_odd, normal_form, has_cell, is_on_map, placed, normalised}

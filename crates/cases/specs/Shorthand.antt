@@ -1,6 +1,6 @@
 -- Short names for the plots of document 01's squared-paper cases, and for what a case compares. Assumes nothing.
 use Rattle.std.specs.Prelude.{ℕ, ℤ, pos}
-use Rattle.octagon.specs.declared.Octagon.{Octagon}
+use Rattle.octagon.specs.Octagon.{Octagon}
 use Rattle.octagon.specs.Outcome.{Outcome, then}
 use Rattle.outline.specs.declared.Outline.{Outline}
 use Rattle.outline.specs.Tracing.{traced}

@@ -1,7 +1,7 @@
 -- The starred squared-paper cases of document 01, in its order and numbers, by one computed test over the list; those of opposed rows have
 -- the answers of document 02's U4. Assumes nothing.
 use Rattle.std.specs.Prelude.{◌≡◌, ℕ, Bool, true, false, List, [], ◌∷◌, map, pos, negsuc, refl}
-use Rattle.octagon.specs.declared.Octagon.{Octagon}
+use Rattle.octagon.specs.Octagon.{Octagon}
 use Rattle.octagon.specs.Outcome.{Outcome, accepted, refused, then}
 use Rattle.integers.specs.Minimum.{min_ℤ, half_ℤ}
 use Rattle.octagon.specs.NormalForm.{even_bound, odd_bound, tight_even, tight_odd, normal_form, sides, has_cell, is_on_map, placed, normalised}

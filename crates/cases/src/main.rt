@@ -7,110 +7,89 @@
 #![tactic(auto)]
 
 mod beside;
+mod bounds;
 mod numbers;
 mod operands;
-mod print;
 mod sets;
-mod signed;
 mod splits;
 mod squared_paper;
+mod told;
 
-use beside::{NOTHING_LEFT, tell, tell_spread, verdict};
-use cell_count::Count;
-use morphology::Spread;
-use octagon::{Answer, Octagon};
-use operands::{EXTREMES, FRAME, PLOT, octagon};
-use outline::Outline;
-use print::text;
-use sets::{Set, cells, positions, sums};
+use beside::{tell, tell_spread};
+use cell_count::count_cells;
+use morphology::{erode, opening};
+use octagon::{Octagon, Refusal, normalise};
+use operands::{ENUMERATED_EXTREMES, EXTREMES, FRAME, PLOT};
+use outline::{Outline, to_octagon};
+use sets::Set;
+use std::io;
+use told::{Answered, Cells, Counted, verdict};
 
 // The price list's figure: the cells of a plot that a frame can open, or where the opening is filled those of the smallest octagon that
-// holds them; or the number of a refusal.
-fn figure(surveyed: Outline, frame: Octagon) -> Count {
-    match outline::to_octagon(surveyed) {
-        Answer::Octagon(plot) => match morphology::opening(plot, frame) {
-            Spread::Exact(opened) => cell_count::count_cells(opened),
-            Spread::Filled(around) => cell_count::count_cells(around),
-            Spread::Refused(n) => Count::Refused(n),
-        },
-        Answer::Refused(n) => Count::Refused(n),
-    }
+// holds them; or a refusal.
+fn figure(surveyed: Outline, frame: Octagon) -> Result<u32, Refusal> {
+    let plot = to_octagon(surveyed)?;
+    let opened = opening(plot, frame)?;
+    count_cells(opened.octagon())
 }
 
-// The plot as it is surveyed.
-const SURVEYED: Outline = Outline {
-    i: 0,
-    j: 0,
-    n0: 0,
-    n1: 2,
-    n2: 0,
-    n3: 2,
-    n4: 0,
-    n5: 2,
-    n6: 0,
-    n7: 2,
-};
-
-fn tell_figure(opened: Set) {
-    let count = figure(SURVEYED, octagon(FRAME));
-    text(b"the price list's figure");
-    print::count(count);
-    verdict(beside::has_count(opened, count));
+fn tell_figure(rt: &impl Print, opened: Set) -> io::Result<()> {
+    let surveyed = Outline::with_sides(0, 0, [0, 2, 0, 2, 0, 2, 0, 2]);
+    let given = Cells(figure(surveyed, FRAME.octagon()));
+    let expected = Cells(Ok(opened.count()));
+    println!(rt;
+        "the price list's figure{given}: {}",
+        verdict(given == expected)
+    )
 }
 
 // The worked example of the README: a plot, a frame of 2 by 2 cells, its positions, the ground that it opens, and the figure.
-fn worked_example() {
-    let plot = octagon(PLOT);
-    let frame = octagon(FRAME);
-    let frame_cells = cells(FRAME, 2, 0);
-    let fitting = positions(cells(PLOT, 0, 0), frame_cells);
-    text(b"plot:");
-    tell(octagon::normalise(plot), cells(PLOT, 0, 0), 1);
-    text(b"positions of the frame:");
-    tell(morphology::erode(plot, frame), fitting, NOTHING_LEFT);
-    text(b"ground that it opens:");
-    tell_spread(morphology::opening(plot, frame), sums(fitting, frame_cells));
-    tell_figure(sums(fitting, frame_cells));
+fn worked_example(rt: &impl Print) -> io::Result<()> {
+    let (plot, frame) = (PLOT.octagon(), FRAME.octagon());
+    let plot_cells = Set::within(PLOT, -2, 0);
+    let frame_cells = Set::within(FRAME, 0, 0);
+    let fitting = plot_cells.positions(frame_cells);
+    let opened = fitting.sums(frame_cells);
+    tell(rt, "plot", normalise(plot), plot_cells, Refusal::NoCell)?;
+    tell(
+        rt,
+        "positions of the frame",
+        erode(plot, frame),
+        fitting,
+        Refusal::NothingLeft,
+    )?;
+    tell_spread(rt, "ground that it opens", opening(plot, frame), opened)?;
+    tell_figure(rt, opened)
 }
 
-fn normalised(operand: usize) -> Answer {
-    let o = octagon(operand);
-    text(b"normalise");
-    print::bounds(o);
-    text(b":");
-    octagon::normalise(o)
-}
-
-// Extreme bounds whose cells are none, anywhere, or too many to enumerate.
-fn extremes() {
-    let mut k = EXTREMES;
-    while k < EXTREMES + 7 {
-        print::answer(normalised(k));
-        print::end();
-        k += 1;
+fn extremes(rt: &impl Print) -> io::Result<()> {
+    for bounds in EXTREMES {
+        let given = normalise(bounds.octagon());
+        println!(rt; "normalise{bounds}:{}", Answered(given.map(Counted::from)))?;
     }
+    Ok(())
 }
 
-// Extreme bounds beside the cells in one window, at the map's edge for those that leave the map.
-fn extreme(operand: usize, x: i32, y: i32) {
-    tell(normalised(operand), cells(operand, x, y), 1);
+fn enumerated_extremes(rt: &impl Print) -> io::Result<()> {
+    for (bounds, corner) in ENUMERATED_EXTREMES {
+        let given = normalise(bounds.octagon());
+        let set = Set::within(bounds, corner.x, corner.y);
+        let asked = format_args!("normalise{bounds}");
+        tell(rt, asked, given, set, Refusal::NoCell)?;
+    }
+    Ok(())
 }
 
-fn extremes_beside_others() {
-    extreme(EXTREMES + 7, 16000, 0);
-    extreme(EXTREMES + 8, 16000, 0);
-    extreme(EXTREMES + 9, 15998, 16000);
-    extreme(EXTREMES + 10, 0, -3);
-    extreme(EXTREMES + 11, 0, -3);
-    extreme(EXTREMES + 12, 2, 2);
-    extreme(EXTREMES + 13, -1, -4);
+fn all(rt: &impl Print) -> io::Result<()> {
+    worked_example(rt)?;
+    squared_paper::tell(rt)?;
+    splits::tell(rt)?;
+    extremes(rt)?;
+    enumerated_extremes(rt)?;
+    numbers::tell(rt)
 }
 
-fn main() {
-    worked_example();
-    squared_paper::tell();
-    splits::tell();
-    extremes();
-    extremes_beside_others();
-    numbers::tell();
+// Where a line cannot be written, nothing more is.
+fn main(rt: HostRuntime) {
+    let _ = all(&rt);
 }

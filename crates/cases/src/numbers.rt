@@ -3,11 +3,12 @@ ghost use Rattle.std.specs.Prelude.{◌≡◌, replicate, pos, slice_index_or};
 ghost use Rattle.outline.specs.Walk.{with_sides};
 ghost use Rattle.cases.specs.Numbers as numbers;
 
-use crate::print;
-use crate::print::text;
-use octagon::Octagon;
+use crate::bounds::Bounds;
+use crate::told::Spaced;
+use octagon::{Octagon, Refusal};
 use outline::Outline;
 use outline::tables::{STEPS, piece_sides};
+use std::io;
 
 // The limits of the map, of folds and of a sheet's length, the lengths of a record without and with a fee row, of one that is written, and
 // of a trailer, and the limit of a radius.
@@ -30,26 +31,27 @@ fn refusals() -> [u32; 19]
     ensures { result ≡ numbers.printed_refusals }
 {
     [
-        octagon::NO_CELL,
-        octagon::OFF_MAP,
-        outline::NOT_CLOSED,
-        morphology::NOTHING_LEFT,
-        morphology::folds::TOO_MANY_FOLDS,
-        outline::NO_VERTEX,
-        sheet::BAD_LENGTH,
-        sheet::BAD_TRAILER,
-        sheet::BAD_DISTANCE,
-        sheet::BAD_NUMBER,
-        sheet::NO_ROOM,
-        sheet::NO_RECORD,
-        tape::NOT_FINITE,
-        tape::NO_POINT,
-        tape::HALF_POINT,
-        clearance::TOO_WIDE,
-        sheet::TWO_RECORDS,
-        spectrum::NO_ORIGIN,
-        spectrum::NO_OTHER_CELL,
+        Refusal::NoCell,
+        Refusal::OffMap,
+        Refusal::NotClosed,
+        Refusal::NothingLeft,
+        Refusal::TooManyFolds,
+        Refusal::NoVertex,
+        Refusal::BadLength,
+        Refusal::BadTrailer,
+        Refusal::BadDistance,
+        Refusal::BadNumber,
+        Refusal::NoRoom,
+        Refusal::NoRecord,
+        Refusal::NotFinite,
+        Refusal::NoPoint,
+        Refusal::HalfPoint,
+        Refusal::TooWide,
+        Refusal::TwoRecords,
+        Refusal::NoOrigin,
+        Refusal::NoOtherCell,
     ]
+    .map(Refusal::number)
 }
 
 // The one cell at the origin.
@@ -87,57 +89,25 @@ fn piece(k: usize) -> Outline
     decomposition::piece(k)
 }
 
-fn tell_limits() {
-    text(b"limits");
-    print::naturals(&limits());
-    text(b"\nrefusals");
-    print::naturals(&refusals());
-    text(b"\norigin");
-    print::bounds(origin());
-    text(b"\nbuilt");
-    print::bounds(built());
-    print::end();
-}
-
-fn tell_step(step: [i32; 2]) {
-    print::bound(step[0]);
-    print::bound(step[1]);
-}
-
-fn tell_steps() {
-    let table = steps();
-    text(b"steps");
-    let mut k = 0;
-    while k < 8 {
-        tell_step(table[k]);
-        k += 1;
-    }
-    print::end();
-}
-
-fn tell_piece(k: usize) {
-    text(b"row ");
-    print::natural(k as u64);
-    text(b" of the pieces:");
-    print::naturals(&sides(k));
-    let o = piece(k);
-    text(b" from");
-    print::bound(o.i);
-    print::bound(o.j);
-    print::end();
+fn tell_constants(rt: &impl Print) -> io::Result<()> {
+    println!(rt; "limits{}", Spaced(&limits()))?;
+    println!(rt; "refusals{}", Spaced(&refusals()))?;
+    println!(rt; "origin{}", Bounds::from(origin()))?;
+    println!(rt; "built{}", Bounds::from(built()))?;
+    println!(rt; "steps{}", Spaced(steps().as_flattened()))
 }
 
 // Each row of the table of pieces, and the one past its end.
-fn tell_pieces() {
-    let mut k = 0;
-    while k <= 13 {
-        tell_piece(k);
-        k += 1;
+fn tell_pieces(rt: &impl Print) -> io::Result<()> {
+    for k in 0..=13 {
+        let sides = sides(k);
+        let Outline { i, j, .. } = piece(k);
+        println!(rt; "row {k} of the pieces:{} from {i} {j}", Spaced(&sides))?;
     }
+    Ok(())
 }
 
-pub fn tell() {
-    tell_limits();
-    tell_steps();
-    tell_pieces();
+pub fn tell(rt: &impl Print) -> io::Result<()> {
+    tell_constants(rt)?;
+    tell_pieces(rt)
 }

@@ -1,158 +1,119 @@
 // Sets of cells in a window of 8 by 8 cells that stands anywhere on the map or off it, enumerated cell by cell.
-use crate::operands::{form, is_cell};
-use crate::signed::{lifted, minus, plus};
+ghost use Rattle.std.specs.Prelude.{◌<◌};
 
-// A set: bit k is the cell k % 8 east and k / 8 north of the window's lowest left cell (x, y). The sets here are so small that sums of
-// their cells stay in a window.
-#[derive(Clone, Copy)]
+use crate::bounds::{Bounds, Cell};
+
+// A set: bit k is the cell k % 8 east and k / 8 north of the window's lowest left cell. The sets here are so small that sums of their
+// cells stay in a window, and so near the map that no coordinate wraps.
+#[derive(Clone, Copy, PartialEq, Eq)]
 pub struct Set {
-    pub bits: u64,
-    pub x: u64,
-    pub y: u64,
+    bits: u64,
+    corner: Cell,
 }
 
-// The column of cell k, and its row.
-pub fn column(s: Set, k: u64) -> u64 {
-    std::num::wrapping_add_u64(s.x, k % 8)
+fn sum(a: Cell, b: Cell) -> Cell {
+    Cell {
+        x: a.x.wrapping_add(b.x),
+        y: a.y.wrapping_add(b.y),
+    }
 }
 
-pub fn row(s: Set, k: u64) -> u64 {
-    std::num::wrapping_add_u64(s.y, k / 8)
+fn difference(a: Cell, b: Cell) -> Cell {
+    Cell {
+        x: a.x.wrapping_sub(b.x),
+        y: a.y.wrapping_sub(b.y),
+    }
 }
 
-// Whether cell k is in a set.
-fn has(s: Set, k: u64) -> bool {
-    if k < 64 { s.bits >> k & 1 == 1 } else { false }
-}
-
-// An operand's cells in the window that begins two cells west of (x, y).
-pub fn cells(operand: usize, x: i32, y: i32) -> Set {
-    let mut s = Set {
-        bits: 0,
-        x: std::num::wrapping_sub_u64(lifted(x), 2),
-        y: lifted(y),
-    };
-    let mut k: u64 = 0;
-    while k < 64 {
-        if is_cell(operand, column(s, k), row(s, k)) {
-            s.bits = s.bits | 1 << k;
+impl Set {
+    // The cells within bounds of the window that has its lowest left cell at (x, y).
+    pub fn within(bounds: Bounds, x: i16, y: i16) -> Self {
+        let corner = Cell { x, y };
+        let mut set = Self { bits: 0, corner };
+        for k in 0..64u8 {
+            if bounds.hold(set.cell(k)) {
+                set.bits |= 1 << k;
+            }
         }
-        k += 1;
+        set
     }
-    s
-}
 
-// Every sum of a cell of one set and a cell of another.
-pub fn sums(a: Set, b: Set) -> Set {
-    let mut bits = 0;
-    let mut k: u64 = 0;
-    while k < 64 {
-        if has(b, k) {
-            bits = bits | a.bits << k;
+    fn cell(self, k: u8) -> Cell {
+        let (x, y) = (i16::from(k % 8), i16::from(k / 8));
+        sum(self.corner, Cell { x, y })
+    }
+
+    fn has(self, k: u8) -> bool {
+        self.bits
+            .checked_shr(u32::from(k))
+            .is_some_and(|rest| rest & 1 == 1)
+    }
+
+    // Every sum of a cell of one set and a cell of another.
+    pub fn sums(self, other: Self) -> Self {
+        let mut bits = 0;
+        for k in 0..64u8 {
+            if other.has(k) {
+                bits |= self.bits << k;
+            }
         }
-        k += 1;
+        let corner = sum(self.corner, other.corner);
+        Self { bits, corner }
     }
-    Set {
-        bits,
-        x: plus(a.x, b.x),
-        y: plus(a.y, b.y),
-    }
-}
 
-// Every position that, moved by any cell of b, is in a.
-pub fn positions(a: Set, b: Set) -> Set {
-    let mut bits = 18446744073709551615;
-    let mut k: u64 = 0;
-    while k < 64 {
-        if has(b, k) {
-            bits = bits & a.bits >> k;
+    // Every position that, moved by any cell of the other set, is in this one.
+    pub fn positions(self, other: Self) -> Self {
+        let mut bits = u64::MAX;
+        for k in 0..64u8 {
+            if other.has(k) {
+                bits &= self.bits >> k;
+            }
         }
-        k += 1;
+        let corner = difference(self.corner, other.corner);
+        Self { bits, corner }
     }
-    Set {
-        bits,
-        x: minus(a.x, b.x),
-        y: minus(a.y, b.y),
+
+    // The number of cells.
+    pub fn count(self) -> u32 {
+        self.bits.count_ones()
     }
-}
 
-// The number of cells.
-pub fn count(s: Set) -> u32 {
-    u64::count_ones(s.bits)
-}
+    // The bounds that the set reaches, unless it has no cell.
+    pub fn reach(self) -> Option<Bounds> {
+        (0..64u8)
+            .filter(|k| self.has(*k))
+            .map(|k| Bounds::reached_by(self.cell(k)))
+            .reduce(Bounds::greatest)
+    }
 
-fn greater(a: u64, b: u64) -> u64 {
-    if a < b { b } else { a }
-}
-
-// The greatest that the left side of inequality k is on a set, or 0 where it has no cell: the bound that it reaches.
-pub fn reach(s: Set, k: usize) -> u64 {
-    let mut most = 0;
-    let mut i: u64 = 0;
-    while i < 64 {
-        if has(s, i) {
-            most = greater(most, form(k, column(s, i), row(s, i)));
+    // The cells within the bounds that the set reaches: those of the smallest octagon that holds it.
+    pub fn within_reach(self) -> Self {
+        match self.reach() {
+            Some(bounds) => Self::within(bounds, self.corner.x, self.corner.y),
+            None => self,
         }
-        i += 1;
     }
-    most
-}
 
-// Whether cell i of a set's window is within the bounds that the set reaches.
-fn is_within(s: Set, i: u64) -> bool {
-    let mut k = 0;
-    while k < 8 {
-        if reach(s, k) < form(k, column(s, i), row(s, i)) {
-            return false;
-        }
-        k += 1;
+    // Whether no octagon has just the cells of the set.
+    pub fn has_holes(self) -> bool {
+        self.within_reach() != self
     }
-    true
-}
 
-// The cells within the bounds that a set reaches: those of the smallest octagon that holds it.
-pub fn within_reach(s: Set) -> Set {
-    let mut bits = 0;
-    let mut i: u64 = 0;
-    while i < 64 {
-        if is_within(s, i) {
-            bits = bits | 1 << i;
-        }
-        i += 1;
+    // The last cell of the set from a cell on, each `step` after the one before.
+    fn last(self, from: u8, step: usize) -> u8
+        requires { 0 < step }
+    {
+        (from..64)
+            .step_by(step)
+            .take_while(|k| self.has(*k))
+            .last()
+            .unwrap_or(from)
     }
-    Set {
-        bits,
-        x: s.x,
-        y: s.y,
+
+    // Corner 2 of the outline: from the lowest left cell to the last along d0 (1,0), and from there to the last along d1 (1,1).
+    pub fn corner_2(self) -> Option<Cell> {
+        let start = (0..64u8).find(|k| self.has(*k))?;
+        let corner_1 = self.last(start, 1);
+        Some(self.cell(self.last(corner_1, 9)))
     }
-}
-
-// Whether no octagon has just the cells of a set.
-pub fn has_holes(s: Set) -> bool {
-    within_reach(s).bits != s.bits
-}
-
-// The last cell of a set from a cell on, each `step` after the one before.
-fn last(s: Set, from: u64, step: u64) -> u64 {
-    let mut here = from;
-    let mut n: u64 = 0;
-    while n < 8 {
-        let next = std::num::wrapping_add_u64(here, step);
-        if !has(s, next) {
-            return here;
-        }
-        here = next;
-        n += 1;
-    }
-    here
-}
-
-fn wide(n: u32) -> u64 {
-    n as u64
-}
-
-// Corner 2 of the outline: from the lowest left cell to the last along d0 (1,0), and from there to the last along d1 (1,1).
-pub fn corner_2(s: Set) -> u64 {
-    let start = wide(u64::trailing_zeros(s.bits));
-    last(s, last(s, start, 1), 9)
 }

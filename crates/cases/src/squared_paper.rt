@@ -1,103 +1,106 @@
 // The squared-paper cases of documents 01 and 02 that are run beside enumerated cells.
-use crate::beside::{tell_marked, tell_spread, verdict};
-use crate::operands::{BESIDE, BLOCK, EDGE, K2, K4, K13, ORIGIN, octagon};
-use crate::print::text;
-use crate::sets::{Set, cells, positions, sums};
-use crate::{beside, print, sets};
-use morphology::Spread;
-use octagon::{Answer, Octagon};
-use outline::Located;
+use crate::beside::{tell_marked, tell_spread};
+use crate::bounds::Cell;
+use crate::operands::{BESIDE, BLOCK, EDGE, K2, K4, K13, ORIGIN};
+use crate::sets::Set;
+use crate::told::{Answered, Marked, verdict};
+use morphology::folds::dilate_n;
+use morphology::{closing, dilate, opening};
+use octagon::{Octagon, Refusal};
+use std::io;
 
-fn edge_of_the_map() {
-    let edge = octagon(EDGE);
-    let edge_cells = cells(EDGE, 16000, 0);
-    text(b"cell (16000,0) spread by (0,0):");
+fn edge_of_the_map(rt: &impl Print) -> io::Result<()> {
+    let edge = Set::within(EDGE, 15998, 0);
     tell_spread(
-        morphology::dilate(edge, octagon(ORIGIN)),
-        sums(edge_cells, cells(ORIGIN, 0, 0)),
-    );
-    text(b"cell (16000,0) spread by (1,0):");
+        rt,
+        "cell (16000,0) spread by (0,0)",
+        dilate(EDGE.octagon(), ORIGIN.octagon()),
+        edge.sums(Set::within(ORIGIN, -2, 0)),
+    )?;
     tell_spread(
-        morphology::dilate(edge, octagon(BESIDE)),
-        sums(edge_cells, cells(BESIDE, 0, 0)),
-    );
+        rt,
+        "cell (16000,0) spread by (1,0)",
+        dilate(EDGE.octagon(), BESIDE.octagon()),
+        edge.sums(Set::within(BESIDE, -2, 0)),
+    )
 }
 
 // K2 and K4 are opposed rows: their sums leave K13's middle out. K4's positions in K13 are K2. A closing has the mark of its
 // spread, and just the cells of the positions in the sums.
-fn opposed_rows() {
-    let falling = cells(K4, 1, 0);
-    let crossed = sums(cells(K2, 0, 0), falling);
-    let fitting = positions(cells(K13, 0, 0), falling);
-    text(b"K2 spread by K4:");
-    tell_spread(morphology::dilate(octagon(K2), octagon(K4)), crossed);
-    text(b"K13 opened by K4:");
+fn opposed_rows(rt: &impl Print) -> io::Result<()> {
+    let falling = Set::within(K4, -1, 0);
+    let crossed = Set::within(K2, -2, 0).sums(falling);
+    let fitting = Set::within(K13, -2, 0).positions(falling);
     tell_spread(
-        morphology::opening(octagon(K13), octagon(K4)),
-        sums(fitting, falling),
-    );
-    text(b"K2 closed by K4:");
+        rt,
+        "K2 spread by K4",
+        dilate(K2.octagon(), K4.octagon()),
+        crossed,
+    )?;
+    tell_spread(
+        rt,
+        "K13 opened by K4",
+        opening(K13.octagon(), K4.octagon()),
+        fitting.sums(falling),
+    )?;
     tell_marked(
-        morphology::closing(octagon(K2), octagon(K4)),
-        positions(crossed, falling),
-        sets::has_holes(crossed),
-    );
-}
-
-// The origin spread n times by itself.
-fn folded(n: u32) -> Spread {
-    morphology::folds::dilate_n(Octagon::ORIGIN, Octagon::ORIGIN, n)
+        rt,
+        "K2 closed by K4",
+        closing(K2.octagon(), K4.octagon()),
+        crossed.positions(falling),
+        crossed.has_holes(),
+    )
 }
 
 // One spread leaves the origin's cells as they are, so they are those of any number of spreads.
-fn fold_limit() {
-    let origin = cells(ORIGIN, 2, 0);
-    let spread = sums(origin, origin);
-    text(b"origin spread once by itself has the same cells");
-    verdict((spread.bits == origin.bits) & (spread.x == origin.x) & (spread.y == origin.y));
-    text(b"origin spread 65535 times by itself:");
-    tell_spread(folded(65535), spread);
-    text(b"origin spread 65536 times by itself:");
-    print::spread(folded(65536));
-    verdict(beside::is_refused(folded(65536).answer(), 6));
+fn fold_limit(rt: &impl Print) -> io::Result<()> {
+    let folded = |n: u32| dilate_n(Octagon::ORIGIN, Octagon::ORIGIN, n);
+    let origin = Set::within(ORIGIN, 0, 0);
+    let spread = origin.sums(origin);
+    let same = verdict(spread == origin);
+    println!(rt; "origin spread once by itself has the same cells: {same}")?;
+    tell_spread(
+        rt,
+        "origin spread 65535 times by itself",
+        folded(65535),
+        spread,
+    )?;
+    let given = folded(65536).map(Marked::from);
+    let refused = verdict(given == Err(Refusal::TooManyFolds));
+    println!(rt;
+        "origin spread 65536 times by itself:{}: {refused}",
+        Answered(given)
+    )
 }
 
 // Whether a number of metres is exactly a quarter of a number of cells.
-fn is_quarter(metres: f64, cells: u64) -> bool {
-    metres * 4.0 == std::num::nearest_u64_to_f64(cells) - 4294967296.0
+fn is_quarter(metres: f64, cells: i16) -> bool {
+    metres * 4.0 == f64::from(cells)
 }
 
-fn is_place(l: Located, x: u64, y: u64) -> bool {
-    match l {
-        Located::Place(p) => is_quarter(p.east, x) & is_quarter(p.north, y),
-        Located::Refused(_) => false,
+fn tell_corner(rt: &impl Print, spread: Octagon, corner: Cell) -> io::Result<()> {
+    let Cell { x, y } = corner;
+    let place = outline::vertex_place(spread, 2);
+    let agrees = place.is_ok_and(|p| is_quarter(p.east, x) && is_quarter(p.north, y));
+    println!(rt;
+        "its corner 2, in quarter metres east and north: {x} {y}: {}",
+        verdict(agrees)
+    )
+}
+
+fn corner_in_metres(rt: &impl Print) -> io::Result<()> {
+    let set = Set::within(BLOCK, 0, 0).sums(Set::within(K13, -1, 0));
+    let spread = dilate(BLOCK.octagon(), K13.octagon());
+    tell_spread(rt, "the block spread by K13", spread, set)?;
+    if let (Ok(given), Some(corner)) = (spread, set.corner_2()) {
+        tell_corner(rt, given.octagon(), corner)?;
     }
+    Ok(())
 }
 
-fn tell_corner(spread: Octagon, s: Set) {
-    let corner = sets::corner_2(s);
-    let x = sets::column(s, corner);
-    let y = sets::row(s, corner);
-    text(b"its corner 2, in quarter metres east and north:");
-    print::signed(x);
-    print::signed(y);
-    verdict(is_place(outline::vertex_place(spread, 2), x, y));
-}
-
-fn corner_in_metres() {
-    let s = sums(cells(BLOCK, 2, 0), cells(K13, 1, 0));
-    let spread = morphology::dilate(octagon(BLOCK), octagon(K13));
-    text(b"the block spread by K13:");
-    tell_spread(spread, s);
-    let Answer::Octagon(o) = spread.answer() else {
-        return;
-    };
-    tell_corner(o, s);
-}
-
-pub fn tell() {
-    edge_of_the_map();
-    opposed_rows();
-    fold_limit();
-    corner_in_metres();
+pub fn tell(rt: &impl Print) -> io::Result<()> {
+    edge_of_the_map(rt)?;
+    opposed_rows(rt)?;
+    fold_limit(rt)?;
+    corner_in_metres(rt)
 }

@@ -6,7 +6,7 @@ use native.Mathlib.Omega.{arith}
 use lib.IntN.{ℤ, pos, ◌+ℤ◌, ◌-ℤ◌, nat_abs}
 use Rattle.integers.proofs.Parts.{up, dn, sum_parts, diff_parts}
 use Rattle.integers.proofs.Linear.{#, ◌⊕◌, lit, ◌≼◌, ◌≈◌, natural}
-use Rattle.octagon.specs.declared.Octagon.{Octagon}
+use Rattle.octagon.specs.Octagon.{Octagon}
 use Rattle.octagon.specs.NormalForm.{odd_side}
 use Rattle.octagon.proofs.Within.{Within, Normal, within, cell_in}
 use Rattle.octagon.proofs.Sides.{odd_is}

@@ -5,7 +5,7 @@ use mathlib.Core.Bool.{Bool, true, false, ◌&&◌}
 use lib.IntN.{ℤ, neg_ℤ, ◌+ℤ◌, ◌-ℤ◌}
 use lib.Signed.{le_z, ◌≤ℤ◌}
 use Rattle.integers.proofs.Tests.{T_true, true_T, true_is_not_false, both_true, and_true, cases}
-use Rattle.octagon.specs.declared.Octagon.{Octagon}
+use Rattle.octagon.specs.Octagon.{Octagon}
 use Rattle.octagon.specs.Cells.{◌⊆◌, ◌≐◌, In}
 use Rattle.cell_count.specs.Count.{inside}
 

@@ -8,7 +8,7 @@ use lib.IntN.{ℤ, pos, negsuc, ◌+ℤ◌, nat_abs}
 use lib.Signed.{non_neg}
 use Rattle.integers.proofs.Parts.{up, dn, le_parts, parts_le}
 use Rattle.integers.proofs.Linear.{Diff, #, ◌⊕◌, neg, lit, ◌≼◌, ◌≈◌}
-use Rattle.octagon.specs.declared.Octagon.{Octagon}
+use Rattle.octagon.specs.Octagon.{Octagon}
 use Rattle.octagon.specs.Outcome.{accepted}
 use Rattle.octagon.specs.Cells.{limit}
 use Rattle.octagon.specs.NormalForm.{odd_side, normalised}

@@ -1,7 +1,7 @@
 -- The cell count by a formula, and the answer of `count_cells`: definitions that compute.
 -- proofs/Counted.antt says what they mean in cells. Assumes nothing.
 use Rattle.std.specs.Prelude.{ℕ, ◌+◌, ◌-◌, ◌*◌, ◌/◌, ℤ, pos, ◌+ℤ◌, nat_abs, ◌≤ℤ◌}
-use Rattle.octagon.specs.declared.Octagon.{Octagon}
+use Rattle.octagon.specs.Octagon.{Octagon}
 use Rattle.octagon.specs.Outcome.{Outcome, accepted, then}
 use Rattle.octagon.specs.Cells.{limit}
 use Rattle.octagon.specs.NormalForm.{odd_side, normalised}

@@ -1,4 +1,3 @@
 -- What the contracts of the cell count cite: counting by a test, the formula, the cases of the answer.
 pub mod Count
 pub mod Area
-pub mod Answers

@@ -4,20 +4,12 @@
 #![tactic(auto)]
 
 ghost use Rattle.std.specs.Prelude.{◌≡◌, ◌+◌, ◌*◌, ◌≤◌, pos, nat_abs, ◌+ℤ◌};
-ghost use Rattle.octagon.specs.Outcome.{accepted};
 ghost use Rattle.octagon.specs.Cells.{limit};
-ghost use Rattle.octagon.specs.NormalForm.{odd_side, normalised};
+ghost use Rattle.octagon.specs.NormalForm.{odd_side};
 ghost use Rattle.cell_count.specs.Area as spec;
-ghost use Rattle.cell_count.specs.Answers.{outcome};
+ghost use Rattle.octagon.specs.Answers.{outcome};
 
-use octagon::{Answer, Octagon, normalise};
-
-// Document 01's cell count: the number of cells, or the number of the refusal.
-#[derive(Clone, Copy)]
-pub enum Count {
-    Cells(u32),
-    Refused(u32),
-}
+use octagon::{NormalForm, Octagon, Refusal};
 
 // A length on the map as an unsigned number.
 fn unsigned(z: i64) -> u64
@@ -35,12 +27,12 @@ fn extent(low: i32, high: i32) -> u64
     unsigned((low as i64) + (high as i64) + 1)
 }
 
-// The cells of the least rectangle round normalised bounds.
-fn rectangle(a: Octagon) -> u64
-    requires { normalised a ≡ accepted a }
-    ensures { result ≡ spec.rectangle a }
+// The cells of the least rectangle round an octagon.
+fn rectangle(a: NormalForm) -> u64
+    ensures { result ≡ spec.rectangle a.bounds }
 {
-    extent(a.c0, a.c4) * extent(a.c6, a.c2)
+    let Octagon { c0, c2, c4, c6, .. } = a.bounds;
+    extent(c0, c4) * extent(c6, c2)
 }
 
 // 1 + 2 + .. + n.
@@ -60,35 +52,33 @@ fn cut(before: i32, own: i32, after: i32) -> u64
 }
 
 // The cells that all four cut off.
-fn cuts(a: Octagon) -> u64
-    requires { normalised a ≡ accepted a }
-    ensures { result ≡ spec.cuts a }
+fn cuts(a: NormalForm) -> u64
+    ensures { result ≡ spec.cuts a.bounds }
 {
-    let c0 = a.c0;
-    let c1 = a.c1;
-    let c2 = a.c2;
-    let c3 = a.c3;
-    let c4 = a.c4;
-    let c5 = a.c5;
-    let c6 = a.c6;
-    let c7 = a.c7;
+    let Octagon {
+        c0,
+        c1,
+        c2,
+        c3,
+        c4,
+        c5,
+        c6,
+        c7,
+    } = a.bounds;
     cut(c0, c1, c2) + cut(c2, c3, c4) + (cut(c4, c5, c6) + cut(c6, c7, c0))
 }
 
-// The number of cells within normalised bounds. It asks for a normal form, and is for this crate and `spectrum`: users have `count_cells`.
-pub fn area(a: Octagon) -> u32
-    requires { normalised a ≡ accepted a }
-    ensures { result ≡ spec.area a }
+// The number of cells of an octagon in normal form, for this crate and `spectrum`: `count_cells` takes any eight bounds.
+pub fn area(a: NormalForm) -> u32
+    ensures { result ≡ spec.area a.bounds }
 {
     (rectangle(a) - cuts(a)) as u32
 }
 
-// The number of cells within any eight bounds. Refuses as `normalise` does.
-pub fn count_cells(o: Octagon) -> Count
+// Document 01's cell count: the number of cells within any eight bounds. Refuses as `normalise` does.
+#[tactic(auto, unfolding(crate::specs::Area::cell_count))]
+pub fn count_cells(o: Octagon) -> Result<u32, Refusal>
     ensures { outcome result ≡ spec.cell_count o }
 {
-    match normalise(o) {
-        Answer::Octagon(a) => Count::Cells(area(a)),
-        Answer::Refused(k) => Count::Refused(k),
-    }
+    Ok(area(NormalForm::of(o)?))
 }

@@ -8,7 +8,7 @@ use lib.Dec.{leb}
 use lib.IntN.{ℤ}
 use borrow.Author.Tests.{leb-true, leb-false, le-leb, lt-leb}
 use Rattle.integers.proofs.Tests.{cases}
-use Rattle.octagon.specs.declared.Octagon.{Octagon}
+use Rattle.octagon.specs.Octagon.{Octagon}
 use Rattle.octagon.specs.Outcome.{Outcome, accepted, refused, off_map}
 use Rattle.octagon.specs.Cells.{◌⊆◌, In, OnMap, LeavesMap, Smallest}
 use Rattle.octagon.specs.NormalForm.{placed, normalised}

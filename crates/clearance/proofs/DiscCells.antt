@@ -7,7 +7,7 @@ use lib.Dec.{leb→le, le→leb}
 use lib.IntN.{ℤ, pos, negsuc, neg_ℤ, nat_abs, ◌+ℤ◌, ◌-ℤ◌}
 use Rattle.integers.proofs.Parts.{up, dn, sum_parts, diff_parts, neg_up, neg_dn}
 use Rattle.integers.proofs.Linear.{#, neg, lit, ◌≼◌}
-use Rattle.octagon.specs.declared.Octagon.{Octagon}
+use Rattle.octagon.specs.Octagon.{Octagon}
 use Rattle.octagon.specs.Cells.{◌⊆◌, In}
 use Rattle.octagon.proofs.Within.{Within, cell_in}
 use Rattle.clearance.specs.Disc.{square, Disc, SlantReach}

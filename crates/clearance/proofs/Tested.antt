@@ -1,8 +1,7 @@
 -- What the test that the code makes tells of its answer: the even bounds, which the slant reach does not touch, decide. Assumes nothing.
-use mathlib.Core.Path.{◌≡◌, refl, ◌∙◌}
+use mathlib.Core.Path.{◌≡◌, ◌∙◌}
 use mathlib.Core.Bool.{Bool, true, false}
-use Prim.Native.Nat.{ℕ, ◌≤◌}
-use lib.IntN.{ℤ}
+use Prim.Native.Nat.{◌≤◌}
 use mir.Syntax.{w32}
 use Rattle.octagon.specs.Outcome.{accepted, refused, off_map}
 use Rattle.octagon.specs.Cells.{◌⊆◌, OnMap}
@@ -10,16 +9,10 @@ use Rattle.octagon.specs.NormalForm.{are_within_limit, is_on_map, placed}
 use Rattle.octagon.specs.Widths.{Held}
 use Rattle.octagon.proofs.Smallest.{test_means, smallest_held}
 use Rattle.clearance.specs.declared.Tree.{Tree}
-use Rattle.clearance.specs.declared.disc.Axes.{Axes}
-use Rattle.clearance.specs.Clearing.{radius_limit, slant_reach, axes, with_slants, octagon_about, cleared}
+use Rattle.clearance.specs.Clearing.{radius_limit, axes, octagon_about, cleared}
 use Rattle.clearance.specs.Cases.{TreeCells}
 use Rattle.clearance.proofs.Discs.{disc_smallest}
 use Rattle.clearance.proofs.Cases.{about, within_limit_placed}
-
--- the octagon from numbers that are equal to its own
-pub about_is : {x y u v : ℤ} {a : Axes} (r : ℕ) {s : ℕ} → a ≡ axes x y r → u ≡ x → v ≡ y → s ≡ slant_reach r → with_slants a u v s ≡ octagon_about x y r
-unfolding octagon_about
-about_is r e p q h = rw (e, p, q, h) refl
 
 module _ (t : Tree) where
   -- the test

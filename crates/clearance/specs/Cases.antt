@@ -1,7 +1,7 @@
 -- The answers of `around`, case by case, in the words of document 02. proofs/Cases.antt proves that they are its answers.
 -- Assumes nothing.
 use Rattle.std.specs.Prelude.{◌≤◌, ◌<◌}
-use Rattle.octagon.specs.declared.Octagon.{Octagon}
+use Rattle.octagon.specs.Octagon.{Octagon}
 use Rattle.octagon.specs.Outcome.{Outcome, accepted, refused, off_map}
 use Rattle.octagon.specs.Cells.{Cells, ◌⊆◌, OnMap, LeavesMap, Smallest}
 use Rattle.clearance.specs.declared.Tree.{Tree}

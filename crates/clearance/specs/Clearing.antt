@@ -1,7 +1,7 @@
 -- What `around` answers: definitions that compute. specs/Cases.antt says the same in words, proofs/Cases.antt joins the two.
 -- Assumes nothing.
 use Rattle.std.specs.Prelude.{cond, ℕ, zero, suc, ◌*◌, leb, ℤ, pos, ◌+ℤ◌}
-use Rattle.octagon.specs.declared.Octagon.{Octagon}
+use Rattle.octagon.specs.Octagon.{Octagon}
 use Rattle.octagon.specs.Outcome.{Outcome, refused}
 use Rattle.octagon.specs.NormalForm.{placed}
 use Rattle.octagon.specs.OneCell.{one_cell}

@@ -8,14 +8,16 @@ ghost use Rattle.std.specs.Prelude.{◌≡◌};
 ghost use Rattle.octagon.specs.Answers.{outcome};
 ghost use Rattle.clearance.specs.Clearing.{cleared};
 
-use octagon::{Answer, OFF_MAP};
+use disc::Axes;
+use octagon::{Octagon, Refusal};
+use slants::slant_reach;
 
 mod disc;
 mod slants;
 mod table;
 
 // Document 02's tree: a centre cell, and a radius in whole cells. Every value is allowed.
-#[derive(Clone, Copy)]
+#[derive(Clone, Copy, Debug, PartialEq, Eq, Hash)]
 pub struct Tree {
     pub x: i32,
     pub y: i32,
@@ -25,25 +27,18 @@ pub struct Tree {
 // The greatest radius that is answered.
 pub const RADIUS_LIMIT: u32 = 255;
 
-// The refusal number of document 02 that this crate adds.
-pub const TOO_WIDE: u32 = 17;
-
 // The smallest octagon that holds every cell at the tree's radius from its centre or less. Refuses a radius above the limit, then a centre
 // off the map, then an octagon that leaves the map: the centre is a cell of it, so one test decides both.
-pub fn around(tree: Tree) -> Answer
+#[tactic(auto, using(crate::proofs::Cases::above_limit_refused))]
+pub fn around(tree: Tree) -> Result<Octagon, Refusal>
     ensures { outcome result ≡ cleared tree }
 {
     if tree.radius > RADIUS_LIMIT {
-        return Answer::Refused(TOO_WIDE);
+        return Err(Refusal::TooWide);
     }
-    let axes = disc::along_axes(tree.x, tree.y, tree.radius);
-    if disc::is_on_map(axes) {
-        return Answer::Octagon(disc::bounds(
-            axes,
-            tree.x,
-            tree.y,
-            slants::slant_reach(tree.radius),
-        ));
+    let axes = Axes::about(tree);
+    if !axes.are_on_map() {
+        return Err(Refusal::OffMap);
     }
-    Answer::Refused(OFF_MAP)
+    Ok(axes.with_slants(tree, slant_reach(tree.radius)))
 }

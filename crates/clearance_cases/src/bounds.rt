@@ -1,91 +1,58 @@
-// Eight bounds, counted from LIFT: those of an octagon, and those that cells reach.
-use crate::signed::{LIFT, lifted, minus, plus};
-use octagon::Octagon;
+// Eight bounds in the order of document 01's inequalities: those of an octagon, and those that cells reach.
+ghost use Rattle.std.specs.Prelude.{◌^◌, ◌<◌, nat_abs};
 
-#[derive(Clone, Copy)]
-pub struct Bounds {
-    pub c0: u64,
-    pub c1: u64,
-    pub c2: u64,
-    pub c3: u64,
-    pub c4: u64,
-    pub c5: u64,
-    pub c6: u64,
-    pub c7: u64,
-}
+use clearance::Tree;
+use octagon::Octagon;
+use std::{array, fmt};
 
 // The map's limit.
-const LIMIT: u64 = LIFT + 16000;
+const LIMIT: i64 = 16000;
 
-// What is below the bounds of every cell.
-pub const LEAST: Bounds = Bounds {
-    c0: 0,
-    c1: 0,
-    c2: 0,
-    c3: 0,
-    c4: 0,
-    c5: 0,
-    c6: 0,
-    c7: 0,
-};
+// The coordinate that is so far from a tree's.
+fn coordinate(middle: i32, away: i16) -> i64
+    ensures { nat_abs result < 2 ^ 32 }
+{
+    i64::from(middle) + i64::from(away)
+}
 
-pub fn of_octagon(o: Octagon) -> Bounds {
-    Bounds {
-        c0: lifted(o.c0),
-        c1: lifted(o.c1),
-        c2: lifted(o.c2),
-        c3: lifted(o.c3),
-        c4: lifted(o.c4),
-        c5: lifted(o.c5),
-        c6: lifted(o.c6),
-        c7: lifted(o.c7),
+#[derive(Clone, Copy, PartialEq, Eq)]
+pub struct Bounds([i64; 8]);
+
+impl Bounds {
+    // Less than each bound of a cell.
+    pub const LEAST: Bounds = Bounds([i64::MIN; 8]);
+
+    // The left sides of the inequalities at the cell that is so far east and north of a tree.
+    pub fn beside(tree: Tree, east: i16, north: i16) -> Self {
+        let x = coordinate(tree.x, east);
+        let y = coordinate(tree.y, north);
+        Self([-y, x - y, x, x + y, y, y - x, -x, -x - y])
+    }
+
+    // The greater of each two.
+    pub fn greatest(self, other: Self) -> Self {
+        Self(array::from_fn(|k| self.0[k].max(other.0[k])))
+    }
+
+    // Whether a cell among those that reach the bounds is off the map: the greatest -y, x, y or -x is past its limit.
+    pub fn leave_map(self) -> bool {
+        let [c0, _, c2, _, c4, _, c6, _] = self.0;
+        c0.max(c2).max(c4).max(c6) > LIMIT
     }
 }
 
-// The left sides of document 01's eight inequalities at the cell (x, y).
-pub fn of_cell(x: u64, y: u64) -> Bounds {
-    Bounds {
-        c0: minus(LIFT, y),
-        c1: minus(x, y),
-        c2: x,
-        c3: plus(x, y),
-        c4: y,
-        c5: minus(y, x),
-        c6: minus(LIFT, x),
-        c7: minus(LIFT, plus(x, y)),
+impl From<Octagon> for Bounds {
+    fn from(o: Octagon) -> Self {
+        Self([o.c0, o.c1, o.c2, o.c3, o.c4, o.c5, o.c6, o.c7].map(i64::from))
     }
 }
 
-fn greater(a: u64, b: u64) -> u64 {
-    if a < b { b } else { a }
-}
-
-// The greater of each two.
-pub fn greatest(a: Bounds, b: Bounds) -> Bounds {
-    Bounds {
-        c0: greater(a.c0, b.c0),
-        c1: greater(a.c1, b.c1),
-        c2: greater(a.c2, b.c2),
-        c3: greater(a.c3, b.c3),
-        c4: greater(a.c4, b.c4),
-        c5: greater(a.c5, b.c5),
-        c6: greater(a.c6, b.c6),
-        c7: greater(a.c7, b.c7),
+// Each bound after a space.
+impl fmt::Display for Bounds {
+    fn fmt<W: fmt::Write>(&self, f: &mut fmt::Formatter<W>) -> fmt::Result {
+        for bound in self.0 {
+            write!(f, " {bound}")?;
+        }
+        Ok(())
     }
-}
-
-pub fn are_same(a: Bounds, b: Bounds) -> bool {
-    (a.c0 == b.c0)
-        & (a.c1 == b.c1)
-        & (a.c2 == b.c2)
-        & (a.c3 == b.c3)
-        & (a.c4 == b.c4)
-        & (a.c5 == b.c5)
-        & (a.c6 == b.c6)
-        & (a.c7 == b.c7)
-}
-
-// Whether a cell among those that reach the bounds is off the map: the greatest -y, x, y or -x is past its limit.
-pub fn leave_map(b: Bounds) -> bool {
-    (LIMIT < b.c0) | (LIMIT < b.c2) | (LIMIT < b.c4) | (LIMIT < b.c6)
 }

@@ -1,66 +1,51 @@
-// The cells at a distance from a centre or less, enumerated one by one in a window that is wider than every disc, by their squares alone.
-use crate::bounds;
+// The cells at a distance from a tree or less, enumerated one by one in a window that is wider than every disc, by their squares alone.
 use crate::bounds::Bounds;
-use crate::signed::lifted;
+use clearance::Tree;
+use octagon::Refusal;
 
-// The window has WIDTH columns and as many rows, and the centre in its middle. The greatest disc, with the radius 255, leaves two cells on
-// each side of it.
-const WIDTH: u32 = 515;
-
-const SIZE: u32 = WIDTH * WIDTH;
-
-const MIDDLE: u32 = 257;
+// How far the window reaches from the tree on each side. The greatest disc, with the radius 255, leaves two cells on each side.
+const REACH: i16 = 257;
 
 // How many cells there are, and the bounds that they reach.
 #[derive(Clone, Copy)]
 pub struct Disc {
     pub cells: u32,
-    pub reached: Bounds,
+    reached: Bounds,
 }
 
-// How far a column or a row of the window is from the middle one.
-fn apart(k: u32) -> u32 {
-    if k < MIDDLE { MIDDLE - k } else { k - MIDDLE }
+fn square(n: i16) -> u32 {
+    let n = u32::from(n.unsigned_abs());
+    n * n
 }
 
-fn square(n: u32) -> u64 {
-    (n as u64) * (n as u64)
+// Whether the cell that is so far east and north of a tree is at its radius or less.
+fn is_near(east: i16, north: i16, radius: u32) -> bool {
+    let radius = u64::from(radius);
+    u64::from(square(east)) + u64::from(square(north)) <= radius * radius
 }
 
-// Whether the cell in a column and a row is at a distance from the middle or less.
-fn is_near(column: u32, row: u32, radius: u32) -> bool {
-    let squares = std::num::wrapping_add_u64(square(apart(column)), square(apart(row)));
-    squares <= square(radius)
-}
-
-// The coordinate of a column or a row, where that of the middle one is given.
-fn coordinate(middle: u64, k: u32) -> u64 {
-    std::num::wrapping_sub_u64(std::num::wrapping_add_u64(middle, k as u64), MIDDLE as u64)
-}
-
-// The same cells and one more.
-fn with_cell(d: Disc, x: u64, y: u64) -> Disc {
-    let reached = d.reached;
-    Disc {
-        cells: std::num::wrapping_add_u32(d.cells, 1),
-        reached: bounds::greatest(reached, bounds::of_cell(x, y)),
-    }
-}
-
-// The cells about (x, y), each cell of the window tested.
-pub fn enumerated(x: i32, y: i32, radius: u32) -> Disc {
-    let east = lifted(x);
-    let north = lifted(y);
-    let mut d = Disc {
-        cells: 0,
-        reached: bounds::LEAST,
-    };
-    let mut k = 0;
-    while k < SIZE {
-        if is_near(k % WIDTH, k / WIDTH, radius) {
-            d = with_cell(d, coordinate(east, k % WIDTH), coordinate(north, k / WIDTH));
+impl Disc {
+    // The cells about a tree, each cell of the window tested.
+    pub fn about(tree: Tree) -> Self {
+        let mut cells = 0u32;
+        let mut reached = Bounds::LEAST;
+        for north in -REACH..=REACH {
+            for east in -REACH..=REACH {
+                if is_near(east, north, tree.radius) {
+                    cells = cells.saturating_add(1);
+                    reached = reached.greatest(Bounds::beside(tree, east, north));
+                }
+            }
         }
-        k += 1;
+        Self { cells, reached }
     }
-    d
+
+    // What the library is to answer: the bounds that the cells reach, or that one is off the map.
+    pub fn expected(self) -> Result<Bounds, Refusal> {
+        if self.reached.leave_map() {
+            Err(Refusal::OffMap)
+        } else {
+            Ok(self.reached)
+        }
+    }
 }

@@ -2,7 +2,7 @@
 -- whichever case fits. Assumes nothing.
 use mathlib.Core.Path.{◌≡◌, refl, sym, ◌∙◌}
 use native.Mathlib.Omega.{arith}
-use Rattle.octagon.specs.declared.Octagon.{Octagon}
+use Rattle.octagon.specs.Octagon.{Octagon}
 use Rattle.octagon.specs.Outcome.{accepted}
 use Rattle.outline.specs.declared.Outline.{Outline}
 use Rattle.outline.specs.Outlining.{outlined}

@@ -2,7 +2,7 @@
 use mathlib.Core.Path.{◌≡◌, refl, sym, ◌∙◌}
 use mathlib.Core.Logic.{◌↔◌}
 use Prim.Native.Nat.{ℕ}
-use Rattle.octagon.specs.declared.Octagon.{Octagon}
+use Rattle.octagon.specs.Octagon.{Octagon}
 use Rattle.octagon.specs.Outcome.{Outcome, accepted, refused, no_cell, off_map}
 use Rattle.octagon.specs.Cells.{◌⊆◌, Empty, Some, In, OnMap, LeavesMap}
 use Rattle.octagon.specs.NormalForm.{normalised}

@@ -1,7 +1,7 @@
 -- When there is a K13, by the sides of the outline alone: where they are those of a diagonal rectangle, and nowhere else. Assumes nothing.
 use mathlib.Core.Path.{◌≡◌}
 use native.Mathlib.Omega.{arith}
-use Rattle.octagon.specs.declared.Octagon.{Octagon}
+use Rattle.octagon.specs.Octagon.{Octagon}
 use Rattle.octagon.specs.Outcome.{accepted}
 use Rattle.outline.specs.declared.Outline.{Outline}
 use Rattle.outline.specs.Outlining.{outlined}

@@ -1,6 +1,6 @@
 -- What a split means, in the words of documents 01 and 02: the records that the theorems speak of. Assumes nothing.
 use Rattle.std.specs.Prelude.{◌≡◌, ◌↔◌, ℕ, ◌+◌, ◌-◌, min, ◌≤◌}
-use Rattle.octagon.specs.declared.Octagon.{Octagon}
+use Rattle.octagon.specs.Octagon.{Octagon}
 use Rattle.octagon.specs.Outcome.{accepted}
 use Rattle.octagon.specs.Cells.{◌≐◌, In}
 use Rattle.outline.specs.declared.Outline.{Outline}

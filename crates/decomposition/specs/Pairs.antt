@@ -18,6 +18,19 @@ no_triangles = record { k5 = 0; k6 = 0; k7 = 0; k8 = 0; k9 = 0; k10 = 0; k11 = 0
 abbrev pub number_of : ℕ → ℕ → ℕ → ℕ → ℕ → ℕ → ℕ
 number_of k p a q b n = cond (eqb k p) a (cond (eqb k q) b n)
 
+-- triangles with n of kind p in place of theirs
+abbrev pub with_kind : Triangles → ℕ → ℕ → Triangles
+with_kind t p n = record {
+  k5 = cond (eqb 5 p) n t.k5;
+  k6 = cond (eqb 6 p) n t.k6;
+  k7 = cond (eqb 7 p) n t.k7;
+  k8 = cond (eqb 8 p) n t.k8;
+  k9 = cond (eqb 9 p) n t.k9;
+  k10 = cond (eqb 10 p) n t.k10;
+  k11 = cond (eqb 11 p) n t.k11;
+  k12 = cond (eqb 12 p) n t.k12;
+}
+
 -- triangles with a of kind p and b of kind q in place of theirs
 abbrev pub with_kinds : Triangles → ℕ → ℕ → ℕ → ℕ → Triangles
 with_kinds t p a q b = record {

@@ -1,13 +1,11 @@
 -- The decomposition of an octagon: definitions that compute. proofs/Decompositions.antt says what they mean. Assumes nothing.
 use Rattle.std.specs.Prelude.{Bool, cond, ◌&&◌, ◌-◌, min, ltb, eqb, pos}
-use Rattle.octagon.specs.declared.Octagon.{Octagon}
-use Rattle.octagon.specs.Outcome.{Outcome, accepted, refused, then}
+use Rattle.octagon.specs.Octagon.{Octagon}
+use Rattle.octagon.specs.Outcome.{Outcome, accepted, then}
 use Rattle.outline.specs.declared.Outline.{Outline}
 use Rattle.outline.specs.Outlining.{outlined}
 use Rattle.decomposition.specs.declared.Counts.{Counts}
 use Rattle.decomposition.specs.declared.Split.{Split}
-use Rattle.decomposition.specs.declared.Decomposed.{Decomposed}
-use Rattle.decomposition.specs.declared.Decomposed.TheVariants.{Split as Holds, Refused}
 use Rattle.decomposition.specs.declared.pairing.Triangles.{Triangles}
 use Rattle.decomposition.specs.Rule.{others, exchanged}
 use Rattle.decomposition.specs.Pairs.{rows_and_triangles, triangles_of}
@@ -52,8 +50,3 @@ split_of o = record { start = record { i = o.i; j = o.j }; counts = counts o }
 -- what `decompose` answers
 unfoldable pub decomposition : Octagon → Outcome Split
 decomposition c = then (outlined c) (λ o. accepted (split_of o))
-
--- document 01's number and values for each case of `Decomposed`
-abbrev pub outcome : Decomposed → Outcome Split
-outcome (Holds s) = accepted s
-outcome (Refused n) = refused n

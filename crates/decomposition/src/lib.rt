@@ -6,25 +6,26 @@
 #![tactic(auto)]
 
 ghost use Rattle.std.specs.Prelude.{◌≡◌};
+ghost use Rattle.octagon.specs.Answers.{outcome};
 ghost use Rattle.decomposition.specs.Pieces as pieces;
 ghost use Rattle.decomposition.specs.Splitting as splitting;
 
-use octagon::Octagon;
+use octagon::{Octagon, Refusal};
 use outline::tables::piece_sides;
-use outline::{Outline, Outlined, to_outline};
+use outline::{Outline, to_outline};
 
 mod counting;
 mod pairing;
 
 // The cell from which the pieces spread: document 01's start.
-#[derive(Clone, Copy)]
+#[derive(Clone, Copy, Debug, PartialEq, Eq, Hash)]
 pub struct Start {
     pub i: i32,
     pub j: i32,
 }
 
 // How many there are of each piece.
-#[derive(Clone, Copy)]
+#[derive(Clone, Copy, Debug, PartialEq, Eq, Hash)]
 pub struct Counts {
     pub k1: u32,
     pub k2: u32,
@@ -41,46 +42,35 @@ pub struct Counts {
     pub k13: u32,
 }
 
+impl Counts {
+    // The counts in the pieces' order, K1 to K13.
+    pub fn to_array(self) -> [u32; 13]
+        ensures { result ≡ pieces.listed self }
+    {
+        [
+            self.k1, self.k2, self.k3, self.k4, self.k5, self.k6, self.k7, self.k8, self.k9,
+            self.k10, self.k11, self.k12, self.k13,
+        ]
+    }
+}
+
 // Document 01's split.
-#[derive(Clone, Copy)]
+#[derive(Clone, Copy, Debug, PartialEq, Eq, Hash)]
 pub struct Split {
     pub start: Start,
     pub counts: Counts,
 }
 
-// A split, or the number of the refusal.
-#[derive(Clone, Copy)]
-pub enum Decomposed {
-    Split(Split),
-    Refused(u32),
-}
-
-// Eight side lengths as an outline that starts at (0, 0).
-fn from_origin(n: [u32; 8]) -> Outline
-    ensures { result ≡ pieces.from_origin n }
-{
-    Outline {
-        i: 0,
-        j: 0,
-        n0: n[0],
-        n1: n[1],
-        n2: n[2],
-        n3: n[3],
-        n4: n[4],
-        n5: n[5],
-        n6: n[6],
-        n7: n[7],
-    }
-}
-
 // Document 01's pieces, K1 in row 0 to K13 in row 12 of the table: row k as an outline from (0, 0), and the one cell (0, 0) past its end.
+#[tactic(auto, unfolding(crate::specs::Pieces::piece_of))]
 pub fn piece(k: usize) -> Outline
     ensures { result ≡ pieces.piece_of k }
 {
-    from_origin(piece_sides(k))
+    Outline::with_sides(0, 0, piece_sides(k))
 }
 
 // The start cell of an outline, and the counts of the pieces that make it.
+#[tactic(auto, unfolding(crate::specs::Splitting::split_of))]
 fn split_of(o: Outline) -> Split
     ensures { result ≡ splitting.split_of o }
 {
@@ -91,11 +81,9 @@ fn split_of(o: Outline) -> Split
 }
 
 // The start cell and the counts of the pieces that make any eight bounds' octagon. Refuses what `normalise` refuses.
-pub fn decompose(o: Octagon) -> Decomposed
-    ensures { splitting.outcome result ≡ splitting.decomposition o }
+#[tactic(auto, unfolding(crate::specs::Splitting::decomposition))]
+pub fn decompose(o: Octagon) -> Result<Split, Refusal>
+    ensures { outcome result ≡ splitting.decomposition o }
 {
-    match to_outline(o) {
-        Outlined::Outline(t) => Decomposed::Split(split_of(t)),
-        Outlined::Refused(n) => Decomposed::Refused(n),
-    }
+    Ok(split_of(to_outline(o)?))
 }

@@ -1,90 +1,101 @@
 // The join of two sheets in a third buffer.
-use crate::print::{answer, buffer, sheet};
-use crate::samples::{BUFFER, HALF, NARROW};
+ghost use Rattle.std.specs.Prelude.{◌<◌};
+
+use crate::print::{Hex, tell};
+use crate::samples::{BUFFER, HALF, NARROW, Sheet};
 use koxirmeta_c::sheets::kx_sheet_join;
+use std::io;
 
 // The length that is handed over, the third buffer, and the two that were only read.
-fn sheet_join(first: &[u8], first_len: usize, second: &[u8], second_len: usize, joined: &mut [u8]) {
+fn join_to(rt: &impl Print, first: Sheet, second: Sheet, joined: &mut [u8]) -> io::Result<()> {
     let mut len = 101;
-    answer(
-        b"\nsheet_join  ",
-        kx_sheet_join(first, first_len, second, second_len, joined, &mut len),
+    let answer = kx_sheet_join(
+        first.buffer,
+        first.len,
+        second.buffer,
+        second.len,
+        joined,
+        &mut len,
     );
-    sheet(len, joined);
-    buffer(first);
-    buffer(second);
+    tell(
+        rt,
+        "sheet_join",
+        answer,
+        format_args!(" {len}{}", Hex(joined)),
+    )?;
+    // Each in a print of its own: one format over slices of several lifetimes gets no proof.
+    print!(rt; "{}", Hex(first.buffer))?;
+    print!(rt; "{}", Hex(second.buffer))
 }
 
-// The same in the first bytes of a buffer, so many.
-fn join_within(
-    first: &[u8],
-    first_len: usize,
-    second: &[u8],
-    second_len: usize,
-    joined: &mut [u8],
-    room: usize,
-) {
-    if room <= joined.len() {
-        sheet_join(first, first_len, second, second_len, &mut joined[0..room]);
-    }
-}
-
-// The same in a buffer of its own.
-fn join(first: &[u8], first_len: usize, second: &[u8], second_len: usize, room: usize) {
+// The same in a buffer with so much room.
+fn join(rt: &impl Print, first: Sheet, second: Sheet, room: usize) -> io::Result<()> {
     let mut joined = BUFFER;
-    join_within(first, first_len, second, second_len, &mut joined, room);
+    let lent = room.min(joined.len());
+    join_to(rt, first, second, &mut joined[..lent])
+}
+
+fn narrow<'a>() -> Sheet<'a> {
+    Sheet::new(&NARROW, 67)
+}
+
+fn half<'a>() -> Sheet<'a> {
+    Sheet::new(&HALF, 73)
 }
 
 // The two halves in either order, and the one of 24 with itself: in a longer buffer, and with just the room.
-fn accepted() {
-    join(&NARROW, 67, &HALF, 73, 103);
-    join(&NARROW, 67, &HALF, 73, 97);
-    join(&HALF, 73, &NARROW, 67, 103);
-    join(&HALF, 73, &NARROW, 67, 99);
-    join(&NARROW, 67, &NARROW, 67, 75);
+fn accepted(rt: &impl Print) -> io::Result<()> {
+    join(rt, narrow(), half(), 103)?;
+    join(rt, narrow(), half(), 97)?;
+    join(rt, half(), narrow(), 103)?;
+    join(rt, half(), narrow(), 99)?;
+    join(rt, narrow(), narrow(), 75)
 }
 
 // One byte too few, and none.
-fn no_room() {
-    join(&NARROW, 67, &HALF, 73, 96);
-    join(&HALF, 73, &NARROW, 67, 98);
-    join(&NARROW, 67, &HALF, 73, 0);
+fn no_room(rt: &impl Print) -> io::Result<()> {
+    join(rt, narrow(), half(), 96)?;
+    join(rt, half(), narrow(), 98)?;
+    join(rt, narrow(), half(), 0)
 }
 
 // The other half with one byte that is another.
-fn changed(at: usize, byte: u8) -> [u8; 77] {
+fn changed(at: usize, byte: u8) -> [u8; 77]
+    requires { at < 77 }
+{
     let mut half = HALF;
-    if at < 77 {
-        half[at] = byte;
-    }
+    half[at] = byte;
     half
 }
 
 // Another fee row for plot 70001, also where there is no room.
-fn two_records() {
-    let half = changed(55, 1);
-    join(&NARROW, 67, &half, 73, 103);
-    join(&half, 73, &NARROW, 67, 103);
-    join(&NARROW, 67, &half, 73, 0);
+fn two_records(rt: &impl Print) -> io::Result<()> {
+    let other = changed(55, 1);
+    let half = Sheet::new(&other, 73);
+    join(rt, narrow(), half, 103)?;
+    join(rt, half, narrow(), 103)?;
+    join(rt, narrow(), half, 0)
 }
 
 // What the check refuses, of the first sheet before the second, and of either before the two fee rows: lengths, wrong letters, a wrong
 // distance, a number above the next one, an open outline, and one off the map.
-fn not_sheets() {
+fn not_sheets(rt: &impl Print) -> io::Result<()> {
     let half = changed(55, 1);
-    join(&NARROW, 15, &half, 72, 103);
-    join(&NARROW, 66, &half, 15, 103);
-    join(&NARROW, 67, &half, 78, 103);
-    join(&NARROW, 67, &half, 72, 0);
-    join(&changed(57, 51), 73, &NARROW, 15, 103);
-    join(&NARROW, 67, &changed(7, 2), 73, 103);
-    join(&NARROW, 67, &changed(13, 16), 73, 103);
-    join(&changed(10, 127), 73, &NARROW, 66, 103);
+    join(rt, Sheet::new(&NARROW, 15), Sheet::new(&half, 72), 103)?;
+    join(rt, Sheet::new(&NARROW, 66), Sheet::new(&half, 15), 103)?;
+    join(rt, narrow(), Sheet::new(&half, 78), 103)?;
+    join(rt, narrow(), Sheet::new(&half, 72), 0)?;
+    let letters = changed(57, 51);
+    join(rt, Sheet::new(&letters, 73), Sheet::new(&NARROW, 15), 103)?;
+    join(rt, narrow(), Sheet::new(&changed(7, 2), 73), 103)?;
+    join(rt, narrow(), Sheet::new(&changed(13, 16), 73), 103)?;
+    let off = changed(10, 127);
+    join(rt, Sheet::new(&off, 73), Sheet::new(&NARROW, 66), 103)
 }
 
-pub fn joins() {
-    accepted();
-    no_room();
-    two_records();
-    not_sheets();
+pub fn joins(rt: &impl Print) -> io::Result<()> {
+    accepted(rt)?;
+    no_room(rt)?;
+    two_records(rt)?;
+    not_sheets(rt)
 }

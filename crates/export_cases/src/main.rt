@@ -2,6 +2,9 @@
 // memory that it was lent, as it is afterwards. tests/exports.py works the expected output out on its own.
 #![tactic(auto)]
 
+use samples::SAMPLES;
+use std::io;
+
 mod clearances;
 mod joins;
 mod octagons;
@@ -13,24 +16,28 @@ mod sheets;
 mod spectra;
 mod tapes;
 
-// Each octagon, in each call that takes one.
-fn each_octagon() {
-    let mut k = 0;
-    while k < 15 {
-        octagons::pairs(k);
-        outlines::outline(k);
-        outlines::split(k);
-        outlines::place(k);
-        k += 1;
+// Each sample, in each call that takes an octagon.
+fn each_sample(rt: &impl Print) -> io::Result<()> {
+    for (k, sample) in SAMPLES.iter().enumerate() {
+        octagons::operations(rt, sample)?;
+        outlines::outline(rt, &sample.bounds)?;
+        outlines::split(rt, &sample.bounds)?;
+        outlines::place(rt, &sample.bounds, (k % 9) as u32)?;
     }
+    Ok(())
 }
 
-fn main() {
-    each_octagon();
-    octagons::misfits();
-    spectra::spectra();
-    tapes::tapes();
-    clearances::clearances();
-    plots::plots();
-    joins::joins();
+fn all(rt: &impl Print) -> io::Result<()> {
+    each_sample(rt)?;
+    octagons::misfits(rt)?;
+    spectra::spectra(rt)?;
+    tapes::tapes(rt)?;
+    clearances::clearances(rt)?;
+    plots::plots(rt)?;
+    joins::joins(rt)
+}
+
+// Where a line cannot be written, nothing more is.
+fn main(rt: HostRuntime) {
+    let _ = all(&rt);
 }

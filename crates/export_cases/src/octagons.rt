@@ -1,98 +1,138 @@
 // The calls that answer an octagon or a count.
-use crate::print::{answer, integers, number};
-use crate::samples::octagon;
+use crate::print::{List, tell};
+use crate::samples::{SAMPLES, Sample};
 use koxirmeta_c::operations::{
     kx_closing, kx_count, kx_dilate, kx_dilate_n, kx_erode, kx_erode_n, kx_normalise, kx_opening,
 };
+use std::io;
 
-// One of the calls that answer an octagon with a mark, by its number.
-fn spread(
-    call: usize,
-    plot: &[i32],
-    frame: &[i32],
-    n: u32,
+// What a result holds before a call.
+const RESULT: [i32; 8] = [101, 102, 103, 104, 105, 106, 107, 108];
+
+// A call that answers an octagon with a mark.
+fn marked<F: FnOnce(&mut [i32], &mut u32) -> u32>(
+    rt: &impl Print,
+    name: &str,
     out: &mut [i32],
-    mark: &mut u32,
-) -> u32 {
-    match call {
-        0 => kx_dilate(plot, frame, out, mark),
-        1 => kx_opening(plot, frame, out, mark),
-        2 => kx_closing(plot, frame, out, mark),
-        _ => kx_dilate_n(plot, frame, n, out, mark),
-    }
-}
-
-// One of the calls that answer an octagon alone.
-fn operate(call: usize, plot: &[i32], frame: &[i32], n: u32, out: &mut [i32]) -> u32 {
-    match call {
-        0 => kx_erode(plot, frame, out),
-        1 => kx_erode_n(plot, frame, n, out),
-        _ => kx_normalise(plot, out),
-    }
-}
-
-fn marked_to(name: &[u8; 13], call: usize, plot: &[i32], frame: &[i32], n: u32, out: &mut [i32]) {
+    call: F,
+) -> io::Result<()>
+    requires { F.IsAlwaysCallable call }
+{
     let mut mark = 201;
-    answer(name, spread(call, plot, frame, n, out, &mut mark));
-    integers(out);
-    number(mark);
+    let answer = call(out, &mut mark);
+    tell(rt, name, answer, format_args!("{} {mark}", List(out)))
 }
 
-fn marked(name: &[u8; 13], call: usize, plot: &[i32], frame: &[i32], n: u32) {
-    let mut out = [101, 102, 103, 104, 105, 106, 107, 108];
-    marked_to(name, call, plot, frame, n, &mut out);
+// A call that answers an octagon alone.
+fn unmarked<F: FnOnce(&mut [i32]) -> u32>(rt: &impl Print, name: &str, call: F) -> io::Result<()>
+    requires { F.IsAlwaysCallable call }
+{
+    let mut out = RESULT;
+    let answer = call(&mut out);
+    tell(rt, name, answer, List(&out))
 }
 
-fn without_mark(name: &[u8; 13], call: usize, plot: &[i32], frame: &[i32], n: u32) {
-    let mut out = [101, 102, 103, 104, 105, 106, 107, 108];
-    answer(name, operate(call, plot, frame, n, &mut out));
-    integers(&out);
+// A plot, a frame, and how often the frame is taken in an n-fold call.
+#[derive(Clone, Copy)]
+struct Operands<'a> {
+    plot: &'a [i32],
+    frame: &'a [i32],
+    folds: u32,
 }
 
-fn operations(plot: &[i32], frame: &[i32], n: u32) {
-    marked(b"\ndilate      ", 0, plot, frame, n);
-    without_mark(b"\nerode       ", 0, plot, frame, n);
-    marked(b"\nopening     ", 1, plot, frame, n);
-    marked(b"\nclosing     ", 2, plot, frame, n);
-    marked(b"\ndilate_n    ", 3, plot, frame, n);
-    without_mark(b"\nerode_n     ", 1, plot, frame, n);
-    without_mark(b"\nnormalise   ", 2, plot, frame, n);
+impl Operands<'_> {
+    fn dilate(&self, rt: &impl Print, out: &mut [i32]) -> io::Result<()> {
+        marked(rt, "dilate", out, |out, mark| {
+            kx_dilate(self.plot, self.frame, out, mark)
+        })
+    }
+
+    fn opening(&self, rt: &impl Print, out: &mut [i32]) -> io::Result<()> {
+        marked(rt, "opening", out, |out, mark| {
+            kx_opening(self.plot, self.frame, out, mark)
+        })
+    }
+
+    fn closing(&self, rt: &impl Print, out: &mut [i32]) -> io::Result<()> {
+        marked(rt, "closing", out, |out, mark| {
+            kx_closing(self.plot, self.frame, out, mark)
+        })
+    }
+
+    fn dilate_n(&self, rt: &impl Print, out: &mut [i32]) -> io::Result<()> {
+        marked(rt, "dilate_n", out, |out, mark| {
+            kx_dilate_n(self.plot, self.frame, self.folds, out, mark)
+        })
+    }
+
+    fn erode(&self, rt: &impl Print) -> io::Result<()> {
+        unmarked(rt, "erode", |out| kx_erode(self.plot, self.frame, out))
+    }
+
+    fn erode_n(&self, rt: &impl Print) -> io::Result<()> {
+        unmarked(rt, "erode_n", |out| {
+            kx_erode_n(self.plot, self.frame, self.folds, out)
+        })
+    }
+
+    fn normalise(&self, rt: &impl Print) -> io::Result<()> {
+        unmarked(rt, "normalise", |out| kx_normalise(self.plot, out))
+    }
+
+    fn each_call(&self, rt: &impl Print) -> io::Result<()> {
+        self.dilate(rt, &mut RESULT)?;
+        self.erode(rt)?;
+        self.opening(rt, &mut RESULT)?;
+        self.closing(rt, &mut RESULT)?;
+        self.dilate_n(rt, &mut RESULT)?;
+        self.erode_n(rt)?;
+        self.normalise(rt)
+    }
+
+    // A result of seven numbers, in the calls with a mark.
+    fn short_results(&self, rt: &impl Print) -> io::Result<()> {
+        self.dilate(rt, &mut RESULT[..7])?;
+        self.opening(rt, &mut RESULT[..7])?;
+        self.closing(rt, &mut RESULT[..7])?;
+        self.dilate_n(rt, &mut RESULT[..7])
+    }
 }
 
-// The frame of each octagon, and how often it is taken in an n-fold call.
-const FRAMES: [usize; 15] = [1, 0, 1, 4, 3, 6, 5, 8, 7, 1, 1, 1, 8, 8, 8];
-
-const FOLDS: [u32; 15] = [2, 0, 65536, 1, 1, 3, 1, 2, 0, 1, 1, 1, 1, 3, 2];
-
-pub fn pairs(k: usize) {
-    let plot = octagon(k);
-    let frame = octagon(FRAMES[k % 15]);
-    operations(&plot, &frame, FOLDS[k % 15]);
+// A sample with its frame, in each call.
+pub fn operations(rt: &impl Print, sample: &Sample) -> io::Result<()> {
+    let operands = Operands {
+        plot: &sample.bounds,
+        frame: &SAMPLES[sample.frame % 15].bounds,
+        folds: sample.folds,
+    };
+    operands.each_call(rt)
 }
 
-pub fn count(plot: &[i32]) {
+pub fn count(rt: &impl Print, plot: &[i32]) -> io::Result<()> {
     let mut cells = 101;
-    answer(b"\ncount       ", kx_count(plot, &mut cells));
-    number(cells);
-}
-
-// A result of seven numbers, in one of the calls with a mark.
-fn short_result(name: &[u8; 13], call: usize) {
-    let plot = octagon(0);
-    let frame = octagon(1);
-    let mut seven = [101, 102, 103, 104, 105, 106, 107];
-    marked_to(name, call, &plot, &frame, 1, &mut seven);
+    let answer = kx_count(plot, &mut cells);
+    tell(rt, "count", answer, format_args!(" {cells}"))
 }
 
 // Seven bounds of the plot, seven of the frame, and results of seven numbers.
-pub fn misfits() {
-    let plot = octagon(0);
-    let frame = octagon(1);
-    operations(&plot[0..7], &frame, 1);
-    operations(&plot, &frame[0..7], 1);
-    short_result(b"\ndilate      ", 0);
-    short_result(b"\nopening     ", 1);
-    short_result(b"\nclosing     ", 2);
-    short_result(b"\ndilate_n    ", 3);
-    count(&plot[0..7]);
+pub fn misfits(rt: &impl Print) -> io::Result<()> {
+    let plot = &SAMPLES[0].bounds;
+    let frame = &SAMPLES[1].bounds;
+    let whole = Operands {
+        plot,
+        frame,
+        folds: 1,
+    };
+    let short_plot = Operands {
+        plot: &plot[..7],
+        ..whole
+    };
+    let short_frame = Operands {
+        frame: &frame[..7],
+        ..whole
+    };
+    short_plot.each_call(rt)?;
+    short_frame.each_call(rt)?;
+    whole.short_results(rt)?;
+    count(rt, &plot[..7])
 }

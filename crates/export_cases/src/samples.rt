@@ -1,31 +1,109 @@
 // Operands and memory whose numbers differ, so that none can stand in another's place unseen.
-const OCTAGONS: [[i32; 8]; 15] = [
+
+// An octagon, which sample is its frame in the calls that take two, and how often that is taken in an n-fold call.
+#[derive(Clone, Copy)]
+pub struct Sample {
+    pub bounds: [i32; 8],
+    pub frame: usize,
+    pub folds: u32,
+}
+
+pub const SAMPLES: [Sample; 15] = [
     // the plot from (-4, -5) with the sides 3 1 14 2 5 4 6 7, and a frame of 10 cells
-    [5, 4, 0, 10, 12, 19, 11, 9],
-    [-4, -1, 5, 11, 7, 4, -2, -7],
+    Sample {
+        bounds: [5, 4, 0, 10, 12, 19, 11, 9],
+        frame: 1,
+        folds: 2,
+    },
+    Sample {
+        bounds: [-4, -1, 5, 11, 7, 4, -2, -7],
+        frame: 0,
+        folds: 0,
+    },
     // two slack bounds; bounds that hold no cell
-    [5, 4, 0, 10, 40, 27, 11, 20],
-    [6, 2, 7, 5, 8, -2, 9, -5],
+    Sample {
+        bounds: [5, 4, 0, 10, 40, 27, 11, 20],
+        frame: 1,
+        folds: 65536,
+    },
+    Sample {
+        bounds: [6, 2, 7, 5, 8, -2, 9, -5],
+        frame: 4,
+        folds: 1,
+    },
     // the cells (16001, -3), off the map, (15999, -7) and (-2, 5)
-    [3, 16004, 16001, 15998, -3, -16004, -16001, -15998],
-    [7, 16006, 15999, 15992, -7, -16006, -15999, -15992],
-    [-5, -7, -2, 3, 5, 7, 2, -3],
+    Sample {
+        bounds: [3, 16004, 16001, 15998, -3, -16004, -16001, -15998],
+        frame: 3,
+        folds: 1,
+    },
+    Sample {
+        bounds: [7, 16006, 15999, 15992, -7, -16006, -15999, -15992],
+        frame: 6,
+        folds: 3,
+    },
+    Sample {
+        bounds: [-5, -7, -2, 3, 5, 7, 2, -3],
+        frame: 5,
+        folds: 1,
+    },
     // the cells (2, 3), (3, 4) and (4, 5), and the cells (1, 7) and (2, 6): opposed diagonal rows
-    [-3, -1, 4, 9, 5, 1, -2, -5],
-    [-6, -4, 2, 8, 7, 6, -1, -8],
+    Sample {
+        bounds: [-3, -1, 4, 9, 5, 1, -2, -5],
+        frame: 8,
+        folds: 2,
+    },
+    Sample {
+        bounds: [-6, -4, 2, 8, 7, 6, -1, -8],
+        frame: 7,
+        folds: 0,
+    },
     // the plot turned by one, two and three quarters; a diamond
-    [11, 9, 5, 4, 0, 10, 12, 19],
-    [12, 19, 11, 9, 5, 4, 0, 10],
-    [0, 10, 12, 19, 11, 9, 5, 4],
-    [-1, -7, -3, 1, 6, 11, 8, 5],
+    Sample {
+        bounds: [11, 9, 5, 4, 0, 10, 12, 19],
+        frame: 1,
+        folds: 1,
+    },
+    Sample {
+        bounds: [12, 19, 11, 9, 5, 4, 0, 10],
+        frame: 1,
+        folds: 1,
+    },
+    Sample {
+        bounds: [0, 10, 12, 19, 11, 9, 5, 4],
+        frame: 1,
+        folds: 1,
+    },
+    Sample {
+        bounds: [-1, -7, -3, 1, 6, 11, 8, 5],
+        frame: 8,
+        folds: 1,
+    },
     // the strip from (-9, 14) with the sides 1 2 2 0 0 3 1 0, in which the row of two cells has positions on one rising row
-    [-14, -22, -6, 12, 18, 24, 9, -5],
+    Sample {
+        bounds: [-14, -22, -6, 12, 18, 24, 9, -5],
+        frame: 8,
+        folds: 3,
+    },
     // the cells (15997, -4) and (15998, -3): spread by that row they reach the map's edge
-    [4, 16001, 15998, 15995, -3, -16001, -15997, -15993],
+    Sample {
+        bounds: [4, 16001, 15998, 15995, -3, -16001, -15997, -15993],
+        frame: 8,
+        folds: 2,
+    },
 ];
 
-pub fn octagon(k: usize) -> [i32; 8] {
-    OCTAGONS[k % 15]
+// The first bytes of a buffer, so many, taken for a sheet.
+#[derive(Clone, Copy)]
+pub struct Sheet<'a> {
+    pub buffer: &'a [u8],
+    pub len: usize,
+}
+
+impl<'a> Sheet<'a> {
+    pub fn new(buffer: &'a [u8], len: usize) -> Self {
+        Self { buffer, len }
+    }
 }
 
 // How many bytes the buffers of sheets have.

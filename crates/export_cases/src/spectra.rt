@@ -1,7 +1,8 @@
 // The spectrum of a plot by a frame, in the first places of a list.
-use crate::print::{answer, length, number, numbers};
-use crate::samples::octagon;
+use crate::print::{List, tell};
+use crate::samples::SAMPLES;
 use koxirmeta_c::spectra::kx_spectrum;
+use std::io;
 
 // A plot of 405 cells, and a frame of 18 that has the cell (0, 0), with a ninth number after the bounds of each. With two bounds of
 // either exchanged, the answer is another.
@@ -14,85 +15,80 @@ const LOOSE: [i32; 8] = [1, 8, 2, 6, 3, 7, 0, 9];
 
 const ROW: [i32; 8] = [1, 2, 1, 0, 0, 0, 0, 0];
 
-const ORIGIN: [i32; 8] = [0, 0, 0, 0, 0, 0, 0, 0];
+const ORIGIN: [i32; 8] = [0; 8];
 
-// The call on the first places of a list, so many: all its places, the trims and the ending.
-fn spectrum_within(plot: &[i32], frame: &[i32], list: &mut [u32], room: usize) {
+// The call on the first places of a list of six, so many: all its places, the trims and the ending.
+fn spectrum(rt: &impl Print, plot: &[i32], frame: &[i32], room: usize) -> io::Result<()> {
+    let mut list = [301, 302, 303, 304, 305, 306];
+    let lent = room.min(list.len());
     let mut trims = 101;
     let mut ending = 201;
-    if room <= list.len() {
-        answer(
-            b"\nspectrum    ",
-            kx_spectrum(plot, frame, &mut list[0..room], &mut trims, &mut ending),
-        );
-        numbers(list);
-        length(trims);
-        number(ending);
-    }
-}
-
-// The same on a list of six places.
-fn spectrum(plot: &[i32], frame: &[i32], room: usize) {
-    let mut list = [301, 302, 303, 304, 305, 306];
-    spectrum_within(plot, frame, &mut list, room);
+    let answer = kx_spectrum(plot, frame, &mut list[..lent], &mut trims, &mut ending);
+    tell(
+        rt,
+        "spectrum",
+        answer,
+        format_args!("{} {trims} {ending}", List(&list)),
+    )
 }
 
 // From no place to two more than there are entries.
-fn every_length() {
-    let plot = &BROAD[0..8];
-    let frame = &SLANT[0..8];
-    spectrum(plot, frame, 0);
-    spectrum(plot, frame, 1);
-    spectrum(plot, frame, 2);
-    spectrum(plot, frame, 3);
-    spectrum(plot, frame, 4);
-    spectrum(plot, frame, 5);
-    spectrum(plot, frame, 6);
+fn every_length(rt: &impl Print) -> io::Result<()> {
+    for room in 0..=6 {
+        spectrum(rt, &BROAD[..8], &SLANT[..8], room)?;
+    }
+    Ok(())
 }
 
 // More places than there are entries, just as many, and one fewer: with slack bounds, and where an opening is filled.
-fn about_the_end() {
-    spectrum(&octagon(2), &LOOSE, 6);
-    spectrum(&octagon(2), &LOOSE, 5);
-    spectrum(&octagon(2), &LOOSE, 4);
-    spectrum(&octagon(13), &ROW, 6);
-    spectrum(&octagon(13), &ROW, 2);
-    spectrum(&octagon(13), &ROW, 1);
+fn about_the_end(rt: &impl Print) -> io::Result<()> {
+    for room in [6, 5, 4] {
+        spectrum(rt, &SAMPLES[2].bounds, &LOOSE, room)?;
+    }
+    for room in [6, 2, 1] {
+        spectrum(rt, &SAMPLES[13].bounds, &ROW, room)?;
+    }
+    Ok(())
 }
 
 // With six places and with none.
-fn refused(plot: &[i32], frame: &[i32]) {
-    spectrum(plot, frame, 6);
-    spectrum(plot, frame, 0);
+fn refused(rt: &impl Print, plot: &[i32; 8], frame: &[i32; 8]) -> io::Result<()> {
+    spectrum(rt, plot, frame, 6)?;
+    spectrum(rt, plot, frame, 0)
 }
 
 // A plot that has no cell, and one off the map, each by the other as a frame; then a plot by such frames, by frames without the cell
 // (0, 0), the second of one cell, and by that cell alone.
-fn refusals() {
-    refused(&octagon(3), &octagon(4));
-    refused(&octagon(4), &octagon(3));
-    refused(&octagon(0), &octagon(3));
-    refused(&octagon(0), &octagon(4));
-    refused(&octagon(0), &octagon(1));
-    refused(&octagon(0), &octagon(6));
-    refused(&octagon(0), &ORIGIN);
+fn refusals(rt: &impl Print) -> io::Result<()> {
+    let plot = &SAMPLES[0].bounds;
+    let none = &SAMPLES[3].bounds;
+    let past = &SAMPLES[4].bounds;
+    refused(rt, none, past)?;
+    refused(rt, past, none)?;
+    refused(rt, plot, none)?;
+    refused(rt, plot, past)?;
+    refused(rt, plot, &SAMPLES[1].bounds)?;
+    refused(rt, plot, &SAMPLES[6].bounds)?;
+    refused(rt, plot, &ORIGIN)
 }
 
 // Seven, nine and no bounds of the plot and of the frame; then seven beside an operand that would be refused.
-fn misfits() {
-    spectrum(&BROAD[0..7], &SLANT[0..8], 6);
-    spectrum(&BROAD[0..8], &SLANT[0..7], 6);
-    spectrum(&BROAD, &SLANT[0..8], 6);
-    spectrum(&BROAD[0..8], &SLANT, 6);
-    spectrum(&BROAD[0..0], &SLANT[0..8], 6);
-    spectrum(&BROAD[0..8], &SLANT[0..0], 6);
-    spectrum(&BROAD[0..7], &ORIGIN, 6);
-    spectrum(&octagon(3), &SLANT[0..7], 6);
+fn misfits(rt: &impl Print) -> io::Result<()> {
+    let broad = &BROAD[..8];
+    let slant = &SLANT[..8];
+    spectrum(rt, &BROAD[..7], slant, 6)?;
+    spectrum(rt, broad, &SLANT[..7], 6)?;
+    spectrum(rt, &BROAD, slant, 6)?;
+    spectrum(rt, broad, &SLANT, 6)?;
+    spectrum(rt, &[], slant, 6)?;
+    spectrum(rt, broad, &[], 6)?;
+    spectrum(rt, &BROAD[..7], &ORIGIN, 6)?;
+    spectrum(rt, &SAMPLES[3].bounds, &SLANT[..7], 6)
 }
 
-pub fn spectra() {
-    every_length();
-    about_the_end();
-    refusals();
-    misfits();
+pub fn spectra(rt: &impl Print) -> io::Result<()> {
+    every_length(rt)?;
+    about_the_end(rt)?;
+    refusals(rt)?;
+    misfits(rt)
 }

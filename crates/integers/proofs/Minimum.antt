@@ -45,6 +45,3 @@ halved (negsuc n) = omega arith
 -- equal arguments
 pub min_is : {a b x y : ℤ} → a ≡ x → b ≡ y → min_ℤ a b ≡ min_ℤ x y
 min_is p q = rw (p, q)
-
-pub half_is : {a x : ℤ} → a ≡ x → half_ℤ a ≡ half_ℤ x
-half_is p = rw p

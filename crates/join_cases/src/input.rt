@@ -1,52 +1,29 @@
-// Standard input: words of eight bytes, the lowest first, and the bytes of buffers. After its end every byte is 0.
-ghost use Rattle.std.specs.Prelude.{◌≤◌, length};
-
-// The descriptor of standard input.
-const STDIN_FILENO: i32 = 0;
+// The input: words of eight bytes, the lowest first, and the bytes of buffers. After its end every byte of a word is 0.
+use std::io::Read;
 
 // The next word as eight letters.
-pub fn next_name() -> [u8; 8] {
-    let mut bytes = [0u8; 8];
-    io::read_full(STDIN_FILENO, &mut bytes);
+pub fn name(input: &mut impl Read) -> [u8; 8] {
+    let mut bytes = [0; 8];
+    let _ = input.read_exact(&mut bytes);
     bytes
 }
 
-// A byte as a number.
-fn wide(byte: u8) -> u64 {
-    byte as u64
-}
-
-// The number in eight bytes.
-fn word(b: &[u8; 8]) -> u64 {
-    let low = wide(b[0]) | wide(b[1]) << 8 | wide(b[2]) << 16 | wide(b[3]) << 24;
-    low | wide(b[4]) << 32 | wide(b[5]) << 40 | wide(b[6]) << 48 | wide(b[7]) << 56
-}
-
 // The next word as a number.
-pub fn next() -> u64 {
-    word(&next_name())
+pub fn number(input: &mut impl Read) -> u64 {
+    u64::from_le_bytes(name(input))
 }
 
-// The lesser of two numbers.
-pub fn lesser(a: usize, b: usize) -> usize
-    ensures { result ≤ b }
-{
-    if a < b { a } else { b }
+// The next word as a length or an index.
+pub fn length(input: &mut impl Read) -> usize {
+    number(input) as usize
 }
 
-// Reads the next `count` bytes to a buffer, no more than there is room for.
-fn read_bytes(buffer: &mut [u8], count: usize) {
-    let end = lesser(count, buffer.len());
-    io::read_full(STDIN_FILENO, &mut buffer[..end]);
-}
-
-// Reads the new bytes of a buffer to their place, and answers how many of all are lent.
-pub fn read_buffer(buffer: &mut [u8]) -> usize
-    ensures { result ≤ length buffer.new }
-{
-    let at = lesser(next() as usize, buffer.len());
-    let count = next() as usize;
-    let lent = lesser(next() as usize, buffer.len());
-    read_bytes(&mut buffer[at..], count);
-    lent
+// Reads the new bytes of a buffer to their place, as far as the input has them, and gives the bytes that are lent.
+pub fn buffer<'a>(input: &mut impl Read, bytes: &'a mut [u8]) -> &'a [u8] {
+    let at = length(input).min(bytes.len());
+    let count = length(input);
+    let lent = length(input).min(bytes.len());
+    let end = at.saturating_add(count).min(bytes.len());
+    let _ = input.read_exact(&mut bytes[at..end]);
+    &bytes[..lent]
 }

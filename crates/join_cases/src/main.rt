@@ -7,8 +7,8 @@
 // sheets. Byte k of the third buffer is k % 251 before the call.
 #![tactic(auto)]
 
-use input::{lesser, next, next_name, read_buffer};
-use sheet::Written;
+use std::io;
+use std::io::Read;
 
 mod input;
 mod words;
@@ -16,66 +16,81 @@ mod words;
 // The room for a sheet, and in the third buffer.
 const ROOM: usize = 65600;
 
-// Joins the first sheet and the second, the second and the first, or the first and itself.
-fn join(
-    way: u64,
-    first: &[u8],
-    first_len: usize,
-    second: &[u8],
-    second_len: usize,
-    third: &mut [u8],
-) -> Written {
-    match way {
-        0 => sheet::join(first, first_len, second, second_len, third),
-        1 => sheet::join(second, first_len, first, second_len, third),
-        _ => sheet::join(first, first_len, first, second_len, third),
+// A pair of sheets under a name, each in the bytes that are lent.
+#[derive(Clone, Copy)]
+struct Pair<'a> {
+    name: [u8; 8],
+    first: &'a [u8],
+    second: &'a [u8],
+}
+
+impl<'a> Pair<'a> {
+    // What a call joins, by a number of the input: the first sheet and the second, the second and the first, or the first and itself.
+    fn operands(&self, way: u64) -> (&'a [u8], &'a [u8]) {
+        match way {
+            0 => (self.first, self.second),
+            1 => (self.second, self.first),
+            _ => (self.first, self.first),
+        }
+    }
+
+    // Makes the next call, and writes its answer and what is then in the third buffer.
+    fn call(&self, rt: &impl Print, input: &mut impl Read, third: &mut [u8]) -> io::Result<()> {
+        let room = input::length(input).min(third.len());
+        let (left, right) = self.operands(input::number(input));
+        let left_len = input::length(input);
+        let right_len = input::length(input);
+        let lent = &mut third[..room];
+        fill(lent);
+        let answer = sheet::join(left, left_len, right, right_len, lent);
+        words::say_answer(rt, &self.name, answer)?;
+        words::say_bytes(rt, lent)
     }
 }
 
-// The byte with an index of the third buffer before a call.
-fn byte(k: usize) -> u8 {
-    (k % 251) as u8
-}
-
+// What a third buffer has before a call.
 fn fill(third: &mut [u8]) {
-    let mut k = 0;
-    while k < third.len() {
-        third[k] = byte(k);
-        k += 1;
+    for (k, byte) in third.iter_mut().enumerate() {
+        *byte = (k % 251) as u8;
     }
 }
 
-// Makes the next call, and writes its answer and what is then in the third buffer.
-fn call(name: &[u8; 8], first: &[u8], second: &[u8], third: &mut [u8]) {
-    let way = next();
-    let first_len = next() as usize;
-    let second_len = next() as usize;
-    fill(third);
-    words::say_answer(name, join(way, first, first_len, second, second_len, third));
-    words::say_bytes(third);
+// The two sheets of a pair and the third buffer, which keep their bytes from one pair to the next.
+#[derive(Drop)]
+struct Buffers {
+    first: [u8; ROOM],
+    second: [u8; ROOM],
+    third: [u8; ROOM],
 }
 
-// The same with so many bytes of the third buffer.
-fn call_within(name: &[u8; 8], first: &[u8], second: &[u8], third: &mut [u8]) {
-    let room = lesser(next() as usize, third.len());
-    call(name, first, second, &mut third[..room]);
-}
-
-// Makes the calls of the next pair.
-fn pair(first: &mut [u8], second: &mut [u8], third: &mut [u8]) {
-    let name = next_name();
-    let first_room = read_buffer(first);
-    let second_room = read_buffer(second);
-    for _ in 0..next() {
-        call_within(&name, &first[..first_room], &second[..second_room], third);
+impl Buffers {
+    // Reads the next pair, and makes its calls.
+    fn calls(&mut self, rt: &impl Print, input: &mut impl Read) -> io::Result<()> {
+        let pair = Pair {
+            name: input::name(input),
+            first: input::buffer(input, &mut self.first),
+            second: input::buffer(input, &mut self.second),
+        };
+        for _ in 0..input::number(input) {
+            pair.call(rt, input, &mut self.third)?;
+        }
+        Ok(())
     }
 }
 
-fn main() {
-    let mut first = [0u8; ROOM];
-    let mut second = [0u8; ROOM];
-    let mut third = [0u8; ROOM];
-    for _ in 0..next() {
-        pair(&mut first, &mut second, &mut third);
+fn all(rt: &impl Print, input: &mut impl Read) -> io::Result<()> {
+    let mut buffers = Buffers {
+        first: [0; ROOM],
+        second: [0; ROOM],
+        third: [0; ROOM],
+    };
+    for _ in 0..input::number(input) {
+        buffers.calls(rt, input)?;
     }
+    Ok(())
+}
+
+// Where a line cannot be written, nothing more is.
+fn main(rt: HostRuntime) {
+    let _ = all(&rt, &mut rt.stdin());
 }

@@ -1,72 +1,48 @@
 // Answers, bytes and digests on standard output.
-use sheet::Written;
-
-// The descriptor of standard output.
-const STDOUT_FILENO: i32 = 1;
+use octagon::Refusal;
+use std::{fmt, io};
 
 // The most bytes of a buffer that are written one by one.
 const SHOWN: usize = 512;
 
-// A digest is below this.
-const PLACES: u64 = 4294967296;
+// Bytes as hexadecimal digits, two for each.
+#[derive(Clone, Copy)]
+struct Hex<'a>(&'a [u8]);
 
-// Writes bytes.
-fn say(bytes: &[u8]) {
-    io::write_all(STDOUT_FILENO, bytes);
+impl fmt::Display for Hex<'_> {
+    fn fmt<W: fmt::Write>(&self, f: &mut fmt::Formatter<W>) -> fmt::Result {
+        for byte in self.0 {
+            write!(f, "{byte:02x}")?;
+        }
+        Ok(())
+    }
 }
 
-// Writes a line of a word and a number.
-fn say_line(word: &[u8], n: u64) {
-    say(word);
-    io::print_decimal(STDOUT_FILENO, n);
-    say(b"\n");
-}
-
-// Writes an answer after the name of its pair.
-pub fn say_answer(name: &[u8; 8], answer: Written) {
-    say(name);
+// Writes an answer after the name of its pair: the length of a sheet that was written, or the number of the refusal.
+pub fn say_answer(
+    rt: &impl Print,
+    name: &[u8; 8],
+    answer: Result<usize, Refusal>,
+) -> io::Result<()> {
+    rt.write_all(name)?;
     match answer {
-        Written::Length(n) => say_line(b" length ", n as u64),
-        Written::Refused(k) => say_line(b" refused ", k as u64),
+        Ok(n) => println!(rt; " length {n}"),
+        Err(refusal) => println!(rt; " refused {}", refusal.number()),
     }
 }
 
-// Goes on with a byte.
-fn mixed(sum: u64, byte: u8) -> u64 {
-    (sum % PLACES * 69069 + (byte as u64)) % PLACES
-}
-
-// A number made of all bytes in order.
-fn digest(bytes: &[u8]) -> u64 {
-    let mut sum = 0;
-    let mut k = 0;
-    while k < bytes.len() {
-        sum = mixed(sum, bytes[k]);
-        k += 1;
-    }
-    sum
-}
-
-// Writes a byte as two hexadecimal digits.
-fn say_byte(byte: u8) {
-    io::print_hex(STDOUT_FILENO, byte as u64, 2);
-}
-
-// Writes bytes as hexadecimal digits.
-fn say_each(bytes: &[u8]) {
-    let mut k = 0;
-    while k < bytes.len() {
-        say_byte(bytes[k]);
-        k += 1;
-    }
+// A number made of all bytes in order, round 2 ^ 32.
+fn digest(bytes: &[u8]) -> u32 {
+    bytes.iter().fold(0u32, |sum, byte| {
+        sum.wrapping_mul(69069).wrapping_add(u32::from(*byte))
+    })
 }
 
 // Writes all bytes of a buffer, or of a long one their digest.
-pub fn say_bytes(bytes: &[u8]) {
+pub fn say_bytes(rt: &impl Print, bytes: &[u8]) -> io::Result<()> {
     if bytes.len() <= SHOWN {
-        say_each(bytes);
-        say(b"\n");
+        println!(rt; "{}", Hex(bytes))
     } else {
-        say_line(b"digest ", digest(bytes));
+        println!(rt; "digest {}", digest(bytes))
     }
 }

@@ -8,7 +8,7 @@ use native.Mathlib.Omega.{arith}
 use lib.IntN.{ℤ, pos, negsuc}
 use lib.Ieee.{fin, round}
 use Rattle.integers.specs.Minimum.{min_ℤ, half_ℤ}
-use Rattle.octagon.specs.declared.Octagon.{Octagon}
+use Rattle.octagon.specs.Octagon.{Octagon}
 use Rattle.octagon.specs.Outcome.{Outcome, accepted, refused}
 use Rattle.octagon.specs.NormalForm.{even_bound, odd_bound, tight_even, tight_odd, normal_form, sides, has_cell, is_on_map, placed, normalised}
 use Rattle.cell_count.specs.Area.{triangle, rectangle, cuts, area, cell_count}
@@ -22,7 +22,8 @@ use Rattle.outline.specs.Tracing.{bounds_at, drawn, traced}
 use Rattle.outline.specs.Outlining.{outline_of, outlined}
 use Rattle.outline.specs.Places.{over, place_of_vertex, located}
 use Rattle.koxirmeta_c.specs.Calls.{wrong_length, fitted, status, Hands, is_eight, bounded, octagon_in, bounds_of, marked_parts, on_one, on_two, counted}
-use Rattle.koxirmeta_c.specs.Outlines.{is_pair, outline_in, holds_outline, start, sides_of, outline_parts, metres_of, tracing, outlining, locating}
+use Rattle.outline.specs.Walk.{sides_of}
+use Rattle.koxirmeta_c.specs.Outlines.{is_pair, outline_in, holds_outline, start, outline_parts, metres_of, tracing, outlining, locating}
 
 -- ---- slices, and what is in them
 
@@ -152,7 +153,7 @@ counts = refl
 
 pub outlines : (outline_in plot_start plot_sides ≡ plot_outline) × (start (negsuc 3) (negsuc 4) ≡ plot_start) × (sides_of plot_outline ≡ plot_sides)
     × (outline_parts plot_outline ≡ (plot_start, plot_sides)) × (metres_of vertex_6 ≡ fin true 11 (negsuc 1) ∷ fin false 1 (pos 1) ∷ [])
-unfolding outline_in start sides_of metres_of
+unfolding outline_in start metres_of
 outlines = (refl, refl, refl, refl, refl)
 
 -- to the octagon: also the outline with its first side one longer, and each slice of a wrong length

@@ -25,7 +25,8 @@ use Rattle.sheet.specs.Sheets.{plots_from, records_bytes, sheet_bytes}
 use Rattle.sheet.specs.Checking.{stated, framed, judged, surveyed, inspected, parsed, fetched, read}
 use Rattle.sheet.specs.Writing.{written_over, admitted, insertion, inserted, after_insert}
 use Rattle.koxirmeta_c.specs.Calls.{fitted, octagon_in}
-use Rattle.koxirmeta_c.specs.Outlines.{outline_in, start, sides_of}
+use Rattle.outline.specs.Walk.{sides_of}
+use Rattle.koxirmeta_c.specs.Outlines.{outline_in, start}
 use Rattle.koxirmeta_c.specs.Splits.{holds_split, split_parts, splitting}
 use Rattle.koxirmeta_c.specs.Sheets.{plot, plot_of, fetching, reading, inserting, after_inserting}
 use Rattle.koxirmeta_c.proofs.Examples.{plot_bounds, crossing_bounds, seven_bounds, plot_start, plot_sides, one_number, seven_sides, plot_outline}
@@ -93,7 +94,7 @@ two_plots =
     replicate 3 9
 
 pub plots : (plot 70001 plot_start plot_sides 772 ≡ numbered) × (plot_of numbered ≡ (70001, plot_start, plot_sides, 772))
-unfolding plot outline_in start sides_of
+unfolding plot outline_in start
 plots = (refl, refl)
 
 -- what an insert leaves: accepted twice, refused as not closing, and with each slice of a wrong length

@@ -1,6 +1,6 @@
 -- A call from C: the number that it answers, and what it leaves in the memory that it was lent. Assumes nothing.
 use Rattle.std.specs.Prelude.{◌≡◌, ℕ, Bool, true, false, cond, ◌&&◌, List, [], ◌∷◌, eqb, ℤ, pos, length, get_or}
-use Rattle.octagon.specs.declared.Octagon.{Octagon}
+use Rattle.octagon.specs.Octagon.{Octagon}
 use Rattle.octagon.specs.Outcome.{Outcome, accepted, refused, left}
 use Rattle.cell_count.specs.Area.{cell_count}
 use Rattle.morphology.specs.Marks.{Marked}

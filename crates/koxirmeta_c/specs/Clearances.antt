@@ -1,6 +1,6 @@
 -- A tree by its numbers, and the call on it. Assumes nothing.
 use Rattle.std.specs.Prelude.{List, ℕ, ℤ}
-use Rattle.octagon.specs.declared.Octagon.{Octagon}
+use Rattle.octagon.specs.Octagon.{Octagon}
 use Rattle.octagon.specs.Outcome.{Outcome}
 use Rattle.clearance.specs.Clearing.{cleared}
 use Rattle.koxirmeta_c.specs.Calls.{fitted, is_eight}

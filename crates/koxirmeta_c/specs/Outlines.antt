@@ -1,10 +1,10 @@
 -- Outlines and places in slices, and the calls on them. Assumes nothing.
 use Rattle.std.specs.Prelude.{ℕ, Bool, ◌&&◌, List, [], ◌∷◌, eqb, Float, ℤ, pos, length, get_or}
-use Rattle.octagon.specs.declared.Octagon.{Octagon}
+use Rattle.octagon.specs.Octagon.{Octagon}
 use Rattle.octagon.specs.Outcome.{Outcome}
 use Rattle.outline.specs.declared.Outline.{Outline}
 use Rattle.outline.specs.declared.place.Place.{Place}
-use Rattle.outline.specs.Walk.{with_sides}
+use Rattle.outline.specs.Walk.{with_sides, sides_of}
 use Rattle.outline.specs.Tracing.{traced}
 use Rattle.outline.specs.Outlining.{outlined}
 use Rattle.outline.specs.Places.{located}
@@ -25,9 +25,6 @@ holds_outline from sides = is_pair from && is_eight sides
 -- a start, the sides of an outline, and both
 unfoldable pub start : ℤ → ℤ → List ℤ
 start i j = i ∷ j ∷ []
-
-unfoldable pub sides_of : Outline → List ℕ
-sides_of o = o.n0 ∷ o.n1 ∷ o.n2 ∷ o.n3 ∷ o.n4 ∷ o.n5 ∷ o.n6 ∷ o.n7 ∷ []
 
 abbrev pub outline_parts : Outline → List ℤ × List ℕ
 outline_parts o = (start o.i o.j, sides_of o)

@@ -5,7 +5,8 @@ use Rattle.sheet.specs.declared.Record.{Record}
 use Rattle.sheet.specs.Checking.{fetched, read}
 use Rattle.sheet.specs.Writing.{inserted, after_insert}
 use Rattle.koxirmeta_c.specs.Calls.{fitted}
-use Rattle.koxirmeta_c.specs.Outlines.{holds_outline, outline_in, start, sides_of}
+use Rattle.outline.specs.Walk.{sides_of}
+use Rattle.koxirmeta_c.specs.Outlines.{holds_outline, outline_in, start}
 
 -- the plot of a number, a start, eight sides and a fee row, and these of a plot
 unfoldable pub plot : ℕ → List ℤ → List ℕ → ℕ → Record

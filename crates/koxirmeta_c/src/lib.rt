@@ -11,6 +11,7 @@
 
 pub mod clearances;
 mod codes;
+mod giving;
 mod octagons;
 pub mod operations;
 pub mod outlines;

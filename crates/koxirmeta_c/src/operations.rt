@@ -1,13 +1,13 @@
 // Normal form, cell count, dilation, erosion, opening, closing and the n-fold forms.
+// Each call is a function of its own, since C calls it by its name.
 ghost use Rattle.octagon.specs.NormalForm.{normalised};
-ghost use Rattle.cell_count.specs.Answers.{outcome};
 ghost use Rattle.morphology.specs.Operations.{dilation, erosion, opened};
 ghost use Rattle.morphology.specs.Folds.{closed, dilation_n, erosion_n};
 ghost use Rattle.koxirmeta_c.specs.Calls as calls;
 
+use crate::giving::give_value;
 use crate::octagons::{give, give_marked, octagon_in};
-use crate::{ACCEPTED, WRONG_LENGTH};
-use cell_count::{Count, count_cells};
+use cell_count::count_cells;
 use morphology::folds::{dilate_n, erode_n};
 use morphology::{closing, dilate, erode, opening};
 use octagon::normalise;
@@ -19,27 +19,11 @@ pub fn kx_normalise(bounds: &[i32], out: &mut [i32]) -> u32
     give(normalise(octagon_in(bounds)), bounds.len() == 8, out)
 }
 
-// Hands a number of cells over, where the slice that was read has the right length.
-fn give_cells(c: Count, fits: bool, cells: &mut u32) -> u32
-    ensures { calls.Hands (calls.fitted fits (outcome c)) (λ n. n) cells.old cells.new result }
-{
-    if fits {
-        match c {
-            Count::Cells(n) => {
-                *cells = n;
-                return ACCEPTED;
-            }
-            Count::Refused(k) => return k,
-        }
-    }
-    WRONG_LENGTH
-}
-
 // The number of cells within eight bounds.
 pub fn kx_count(bounds: &[i32], cells: &mut u32) -> u32
     ensures { calls.Hands (calls.counted bounds.now) (λ n. n) cells.old cells.new result }
 {
-    give_cells(count_cells(octagon_in(bounds)), bounds.len() == 8, cells)
+    give_value(count_cells(octagon_in(bounds)), bounds.len() == 8, cells)
 }
 
 // The dilation of a plot by an element (document 01's spread), and its mark.

@@ -1,6 +1,8 @@
 // Sheets in lent buffers: check, fetch, read, start, insert and join.
+// Each call is a function of its own, since C calls it by its name. C lends a buffer and says how long its sheet is,
+// and lends a place for each number that is handed over.
 ghost use Rattle.std.specs.Prelude.{◌≡◌};
-ghost use Rattle.sheet.specs.Answers.{count_outcome, record_outcome, length_outcome};
+ghost use Rattle.octagon.specs.Answers.{outcome};
 ghost use Rattle.sheet.specs.Checking.{checked};
 ghost use Rattle.sheet.specs.Writing.{started, after_start};
 ghost use Rattle.sheet.specs.Joining as joins;
@@ -8,53 +10,43 @@ ghost use Rattle.koxirmeta_c.specs.Calls as calls;
 ghost use Rattle.koxirmeta_c.specs.Outlines.{holds_outline};
 ghost use Rattle.koxirmeta_c.specs.Sheets as sheets;
 
-use crate::codes::{outline_in, put_outline};
+use crate::codes::{outline_in, parts_of};
+use crate::giving::give_value;
 use crate::{ACCEPTED, WRONG_LENGTH};
-use sheet::{Checked, Fetched, Record, Written};
-
-// Hands a number of records over.
-fn give_count(c: Checked, count: &mut u32) -> u32
-    ensures { calls.Hands (count_outcome c) (λ n. n) count.old count.new result }
-{
-    match c {
-        Checked::Count(n) => {
-            *count = n;
-            ACCEPTED
-        }
-        Checked::Refused(k) => k,
-    }
-}
+use octagon::Refusal;
+use sheet::Record;
 
 // How many records the sheet in the first `len` bytes has.
 pub fn kx_sheet_check(sheet: &[u8], len: usize, count: &mut u32) -> u32
     ensures { calls.Hands (checked sheet.now len) (λ n. n) count.old count.new result }
 {
-    give_count(sheet::check(sheet, len), count)
+    give_value(sheet::check(sheet, len), true, count)
 }
 
 // Hands a record over, where `start` and `sides` have the right lengths: its plot number, its outline and its fee row.
 fn give_record(
-    f: Fetched,
+    answer: Result<Record, Refusal>,
     number: &mut u32,
     start: &mut [i32],
     sides: &mut [u32],
     fee_row: &mut u16,
 ) -> u32
-    ensures { calls.Hands (calls.fitted (holds_outline start.old sides.old) (record_outcome f)) sheets.plot_of (number.old, start.old, sides.old, fee_row.old) (number.new, start.new, sides.new, fee_row.new) result }
+    ensures { calls.Hands (calls.fitted (holds_outline start.old sides.old) (outcome answer)) sheets.plot_of (number.old, start.old, sides.old, fee_row.old) (number.new, start.new, sides.new, fee_row.new) result }
 {
-    if (start.len() == 2) & (sides.len() == 8) {
-        match f {
-            Fetched::Record(r) => {
-                *number = r.number;
-                *fee_row = r.fee_row;
-                let o = r.outline;
-                put_outline(start, sides, o);
-                return ACCEPTED;
-            }
-            Fetched::Refused(k) => return k,
-        }
+    if (start.len() != 2) | (sides.len() != 8) {
+        return WRONG_LENGTH;
     }
-    WRONG_LENGTH
+    match answer {
+        Ok(r) => {
+            let (from, lengths) = parts_of(r.outline);
+            *number = r.number;
+            start.copy_from_slice(&from);
+            sides.copy_from_slice(&lengths);
+            *fee_row = r.fee_row;
+            ACCEPTED
+        }
+        Err(refusal) => refusal.number(),
+    }
 }
 
 // Record k, counted from 0.
@@ -87,24 +79,11 @@ pub fn kx_sheet_read(
     give_record(sheet::read(sheet, len, k), number, start, sides, fee_row)
 }
 
-// Hands the length of a sheet over.
-fn give_length(w: Written, len: &mut usize) -> u32
-    ensures { calls.Hands (length_outcome w) (λ n. n) len.old len.new result }
-{
-    match w {
-        Written::Length(n) => {
-            *len = n;
-            ACCEPTED
-        }
-        Written::Refused(k) => k,
-    }
-}
-
 // Starts a sheet of no records after `heading` bytes.
 pub fn kx_sheet_start(sheet: &mut [u8], heading: usize, len: &mut usize) -> u32
     ensures { calls.Hands (started sheet.old heading) (λ n. n) len.old len.new result × (sheet.new ≡ after_start sheet.old heading) }
 {
-    give_length(sheet::start(sheet, heading), len)
+    give_value(sheet::start(sheet, heading), true, len)
 }
 
 // Inserts a plot by its number.
@@ -126,7 +105,7 @@ pub fn kx_sheet_insert(
             outline,
             fee_row,
         };
-        return give_length(sheet::insert(sheet, len, r), grown);
+        return give_value(sheet::insert(sheet, len, r), true, grown);
     }
     WRONG_LENGTH
 }
@@ -143,8 +122,9 @@ pub fn kx_sheet_join(
     ensures hands { calls.Hands (joins.joined first.now first_len second.now second_len joined.old) (λ n. n) len.old len.new result × (joined.new ≡ joins.after_join first.now first_len second.now second_len joined.old) }
     ensures only_read { (first.exit.now ≡ first.entry.now) × (second.exit.now ≡ second.entry.now) }
 {
-    give_length(
+    give_value(
         sheet::join(first, first_len, second, second_len, joined),
+        true,
         len,
     )
 }

@@ -6,6 +6,7 @@ ghost use Rattle.koxirmeta_c.specs.Spectra as spectra;
 
 use crate::octagons::octagon_in;
 use crate::{ACCEPTED, WRONG_LENGTH};
+use octagon::Refusal;
 use spectrum::{Spectrum, pattern_spectrum};
 
 // How a spectrum ended.
@@ -14,22 +15,18 @@ const SPENT: u32 = 0;
 const FINISHED: u32 = 1;
 
 // Hands over how many trims were made, and how it ended.
-fn give_ending(s: Spectrum, trims: &mut usize, ending: &mut u32) -> u32
-    ensures { calls.Hands (outcome s) spectra.ending_parts (trims.old, ending.old) (trims.new, ending.new) result }
+#[tactic(auto, unfolding(crate::specs::Calls::status))]
+fn give_ending(answer: Result<Spectrum, Refusal>, trims: &mut usize, ending: &mut u32) -> u32
+    ensures { calls.Hands (outcome answer) spectra.ending_parts (trims.old, ending.old) (trims.new, ending.new) result }
 {
-    match s {
-        Spectrum::Finished(n) => {
-            *trims = n;
-            *ending = FINISHED;
-            ACCEPTED
-        }
-        Spectrum::Spent(n) => {
-            *trims = n;
-            *ending = SPENT;
-            ACCEPTED
-        }
-        Spectrum::Refused(k) => k,
-    }
+    let (n, end) = match answer {
+        Ok(Spectrum::Finished(n)) => (n, FINISHED),
+        Ok(Spectrum::Spent(n)) => (n, SPENT),
+        Err(refusal) => return refusal.number(),
+    };
+    *trims = n;
+    *ending = end;
+    ACCEPTED
 }
 
 // The cells that are lost from each number of folds of the frame to the next, from the first place of the list on.

@@ -1,2 +1,2 @@
--- What the contracts of this crate cite: what a call did, and how many bytes it moved.
+-- What the contracts of this crate cite: what the failure of a call means, and how many bytes were read.
 pub mod Transfers

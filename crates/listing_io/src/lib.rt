@@ -4,23 +4,22 @@
 // a second writer; if that fails too, nothing more can be done.
 #![tactic(auto)]
 
-use input::Input;
 use std::io::{Read, Write};
 
 mod input;
 mod output;
-mod transfer;
+mod tries;
 
 // Writes one line on what failed.
 fn complain<E: Write>(failures: &mut E, line: &[u8]) {
-    output::write_all(failures, line);
+    let _ = output::write_all(failures, line);
 }
 
 // Writes the listing of the sheet in the first `len` bytes.
 fn write_listing<W: Write, E: Write>(sheet: &[u8], len: usize, to: &mut W, failures: &mut E) {
     let mut text = [0u8; report::TEXT];
     let n = report::list(sheet, len, &mut text);
-    if !output::write_all(to, &text[..n]) {
+    if output::write_all(to, &text[..n]).is_err() {
         complain(failures, b"listing: the listing could not be written\n");
     }
 }
@@ -30,7 +29,7 @@ fn write_listing<W: Write, E: Write>(sheet: &[u8], len: usize, to: &mut W, failu
 pub fn list_sheet<R: Read, W: Write, E: Write>(from: &mut R, to: &mut W, failures: &mut E) {
     let mut sheet = [0u8; input::ROOM];
     match input::read_sheet(from, &mut sheet) {
-        Input::Length(len) => write_listing(&sheet, len, to, failures),
-        Input::Failed => complain(failures, b"listing: the input could not be read\n"),
+        Ok(len) => write_listing(&sheet, len, to, failures),
+        Err(_) => complain(failures, b"listing: the input could not be read\n"),
     }
 }

@@ -1,30 +1,24 @@
 // A text written whole, in as many writes as it takes.
-use crate::transfer::{TRIES, Transfer, write_some};
-use std::io::Write;
+ghost use Rattle.std.specs.Prelude.{OnOk};
+ghost use Rattle.std.specs.Io.KnownBytes.{Appends};
 
-// Writes all of a text and answers true. Answers false where a write fails or takes nothing; a part may then have been written.
-// It ends: each turn leaves less of the text or fewer tries.
-pub fn write_all<W: Write>(to: &mut W, text: &[u8]) -> bool {
-    let mut done = 0;
-    let mut tries = TRIES;
-    while done < text.len() {
-        match write_some(to, &text[done..]) {
-            Transfer::Bytes(n) => {
-                if n == 0 {
-                    return false;
-                }
-                done += n;
-            }
-            Transfer::Interrupted => {
-                if tries == 0 {
-                    return false;
-                }
-                tries -= 1;
-            }
-            Transfer::Failed => {
-                return false;
-            }
+use crate::tries::Tries;
+use std::io;
+use std::io::{ErrorKind, Write};
+
+// Writes all of a text. It fails where a write fails or takes nothing; a part may then have been written.
+// It ends: each turn leaves less of the text or fewer tries. A `while`, since a write says how far it came.
+pub fn write_all<W: Write>(to: &mut W, text: &[u8]) -> io::Result<()>
+    ensures { OnOk result (Appends (W.contents to.old) (W.contents to.new) text.now) }
+{
+    let mut rest = text;
+    let mut tries = Tries::new();
+    while !rest.is_empty() {
+        match to.write(rest) {
+            Ok(0) => return Err(ErrorKind::WriteZero.into()),
+            Ok(n) => rest = &rest[n..],
+            Err(e) => tries.again(e)?,
         }
     }
-    true
+    Ok(())
 }

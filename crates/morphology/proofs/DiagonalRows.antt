@@ -8,7 +8,7 @@ use Rattle.integers.proofs.Parts.{sum_parts, diff_parts, eq_parts}
 use Rattle.integers.proofs.Linear.{Diff, #, ◌⊕◌, lit, ◌≼◌, same}
 use Rattle.integers.proofs.Between.{decide}
 use Rattle.integers.proofs.Tests.{both_true, and_true, or_either, either_or, true_is_not_false}
-use Rattle.octagon.specs.declared.Octagon.{Octagon}
+use Rattle.octagon.specs.Octagon.{Octagon}
 use Rattle.octagon.specs.Cells.{In, Normalised}
 use Rattle.octagon.proofs.Within.{Within, Normal, within, cell_in}
 use Rattle.octagon.proofs.Vertices.{Vertex, vertex_12, vertex_34, vertex_56, vertex_70, reached_normal}

@@ -1,6 +1,6 @@
 -- No folds give the first operand's normal form, exact, and one fold is the plain call. Assumes nothing.
 use mathlib.Core.Path.{◌≡◌, refl}
-use Rattle.octagon.specs.declared.Octagon.{Octagon}
+use Rattle.octagon.specs.Octagon.{Octagon}
 use Rattle.octagon.specs.Outcome.{accepted}
 use Rattle.octagon.specs.NormalForm.{normalised, placed}
 use Rattle.octagon.proofs.Map.{near_test}

@@ -7,7 +7,7 @@ use Prim.Native.Nat.{ℕ, zero, suc}
 use native.Mathlib.Omega.{arith}
 use lib.IntN.{ℤ, ◌+ℤ◌}
 use Rattle.integers.proofs.Parts.{sum_parts}
-use Rattle.octagon.specs.declared.Octagon.{Octagon}
+use Rattle.octagon.specs.Octagon.{Octagon}
 use Rattle.octagon.specs.Cells.{Cells, ◌≐◌, Some, In, Smallest}
 use Rattle.octagon.specs.OneCell.{one_cell}
 use Rattle.octagon.proofs.Within.{Within, left_sides, within, cell_in}

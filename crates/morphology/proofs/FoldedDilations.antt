@@ -11,7 +11,7 @@ use Rattle.integers.proofs.Parts.{sum_parts}
 use Rattle.integers.proofs.Linear.{#, lit, ◌≼◌}
 use Rattle.integers.proofs.Multiples.{times_between}
 use Rattle.integers.proofs.Tests.{cases, true_is_not_false}
-use Rattle.octagon.specs.declared.Octagon.{Octagon}
+use Rattle.octagon.specs.Octagon.{Octagon}
 use Rattle.octagon.specs.Outcome.{Outcome, accepted, refused, then}
 use Rattle.octagon.specs.Cells.{Some, In, limit}
 use Rattle.octagon.specs.NormalForm.{normalised, placed, is_on_map}

@@ -9,7 +9,7 @@ use Rattle.integers.proofs.Linear.{#, ◌⊕◌, lit}
 use Rattle.integers.proofs.Between.{decide}
 use Rattle.integers.proofs.Multiples.{times_below, times_above}
 use Rattle.integers.proofs.Tests.{T_true, true_T, both_or_neither}
-use Rattle.octagon.specs.declared.Octagon.{Octagon}
+use Rattle.octagon.specs.Octagon.{Octagon}
 use Rattle.octagon.specs.Outcome.{Outcome, accepted, refused, then}
 use Rattle.octagon.specs.NormalForm.{normalised, placed}
 use Rattle.octagon.proofs.Outcomes.{accepted_same}

@@ -3,7 +3,7 @@
 use mathlib.Core.Path.{◌≡◌, sym, ◌∙◌, ap, ap₂}
 use Prim.Native.Nat.{ℕ}
 use mir.Syntax.{w32}
-use Rattle.octagon.specs.declared.Octagon.{Octagon}
+use Rattle.octagon.specs.Octagon.{Octagon}
 use Rattle.octagon.specs.Outcome.{accepted}
 use Rattle.octagon.specs.NormalForm.{normalised}
 use Rattle.octagon.specs.Widths.{Held}
@@ -38,10 +38,14 @@ module _ (p f : Octagon) (n : ℕ) (e : Octagon) (q : erosion_n p f n ≡ accept
       let own = own_form (represents_covers (erosion_n_accepted p f n e q)) in
       rw m.1 (ap accepted (s.is_sums ∙ ap₂ (λ x y. sums x (multiples n y)) (accepted_same (sym s.operands.of_p ∙ own)) (accepted_same (sym s.operands.of_f ∙ h))))
 
-  -- which fits an i32
+  -- which is its own normal form, and fits an i32
+  pub opened_form : (b : Octagon) → normalised f ≡ accepted b → normalised (sums e (multiples n b)) ≡ accepted (sums e (multiples n b))
+  opened_form b h =
+      let m = spreads_back in
+      rw (accepted_same (sym (ap unmarked m.1) ∙ opened_sums b h)) at (own_form (dilation_n_accepted e f n m.0 (rw q at m.1)).covers)
+
   pub opened_held : (b : Octagon) → normalised f ≡ accepted b → Held w32 (sums e (multiples n b))
   opened_held b h =
-      let m = spreads_back in
-      let x = m.0.octagon in
-      let own = own_form (dilation_n_accepted e f n m.0 (rw q at m.1)).covers in
-      rw (accepted_same (sym (ap unmarked m.1) ∙ opened_sums b h)) at (near_held x (accepted_normal x x own) (accepted_near x x own))
+      let s = sums e (multiples n b) in
+      let own = opened_form b h in
+      near_held s (accepted_normal s s own) (accepted_near s s own)

@@ -7,7 +7,7 @@ use Prim.Native.Nat.{ℕ, ◌+◌, ◌≤◌}
 use native.Mathlib.Omega.{arith}
 use Rattle.integers.proofs.Between.{if_any}
 use Rattle.integers.proofs.Tests.{T_true, true_T, cases, or_either, either_or, both_or_neither}
-use Rattle.octagon.specs.declared.Octagon.{Octagon}
+use Rattle.octagon.specs.Octagon.{Octagon}
 use Rattle.octagon.specs.Outcome.{accepted}
 use Rattle.octagon.specs.Cells.{◌≐◌, In}
 use Rattle.octagon.proofs.NormalForms.{accepted_means, accepted_normal}

@@ -7,7 +7,7 @@ use native.Mathlib.Omega.{arith}
 use lib.IntN.{ℤ, ◌+ℤ◌}
 use Rattle.integers.proofs.Parts.{sum_parts, eq_parts}
 use Rattle.integers.proofs.Linear.{#, same}
-use Rattle.octagon.specs.declared.Octagon.{Octagon}
+use Rattle.octagon.specs.Octagon.{Octagon}
 use Rattle.octagon.specs.Cells.{Cells, ◌≐◌, Some, In}
 use Rattle.octagon.specs.NormalForm.{normal_form}
 use Rattle.morphology.specs.Sets.{Dilated, DilatedTimes, DiagonalRow, OpposedRows}

@@ -4,7 +4,7 @@ use mathlib.Core.Logic.{◌↔◌}
 use mathlib.Core.Bool.{Bool, true, false}
 use Prim.Native.Nat.{ℕ}
 use Rattle.integers.proofs.Tests.{cases, true_is_not_false}
-use Rattle.octagon.specs.declared.Octagon.{Octagon}
+use Rattle.octagon.specs.Octagon.{Octagon}
 use Rattle.octagon.specs.Outcome.{Outcome, accepted, refused, off_map}
 use Rattle.octagon.specs.Cells.{Cells, ◌⊆◌, ◌≐◌, Empty, Some, In, OnMap, LeavesMap, Represents, Smallest, limit}
 use Rattle.octagon.specs.NormalForm.{normalised, placed}

@@ -5,7 +5,7 @@ use native.Mathlib.Omega.{arith}
 use lib.IntN.{ℤ, pos, negsuc, ◌+ℤ◌}
 use Rattle.integers.proofs.Parts.{up, dn, sum_parts, eq_parts}
 use Rattle.integers.proofs.Linear.{Diff, #, ◌⊕◌, neg, lit, ◌≈◌}
-use Rattle.octagon.specs.declared.Octagon.{Octagon}
+use Rattle.octagon.specs.Octagon.{Octagon}
 use Rattle.octagon.specs.Cells.{◌≐◌, In}
 use Rattle.octagon.proofs.Within.{Within, Normal, within, cell_in}
 use Rattle.octagon.proofs.Vertices.{Vertex, vertex_12, vertex_34, vertex_56, vertex_70}

@@ -4,7 +4,7 @@
 -- Assumes nothing.
 use mathlib.Core.Path.{◌≡◌, sym, ◌∙◌}
 use Prim.Native.Nat.{ℕ, ◌≤◌}
-use Rattle.octagon.specs.declared.Octagon.{Octagon}
+use Rattle.octagon.specs.Octagon.{Octagon}
 use Rattle.octagon.specs.Outcome.{accepted, refused}
 use Rattle.octagon.specs.Cells.{◌⊆◌, Empty, In, Smallest, limit}
 use Rattle.octagon.proofs.Outcomes.{accepted_not_refused, Through, then_accepted}

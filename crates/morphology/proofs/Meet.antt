@@ -7,7 +7,7 @@ use Rattle.integers.specs.Minimum.{min_ℤ}
 use Rattle.integers.proofs.Linear.{#, ◌⊕◌, neg, lit, ◌≼◌}
 use Rattle.integers.proofs.Between.{between, half_up, decide}
 use Rattle.integers.proofs.Minimum.{min_ind, min_left, min_right}
-use Rattle.octagon.specs.declared.Octagon.{Octagon}
+use Rattle.octagon.specs.Octagon.{Octagon}
 use Rattle.octagon.proofs.Within.{Within, Normal}
 
 -- sums of two, three and four bounds that are nought or more

@@ -6,7 +6,7 @@ use native.Mathlib.Omega.{arith}
 use lib.IntN.{ℤ, pos, ◌*ℤ◌}
 use Rattle.integers.proofs.Linear.{#, ◌⊕◌, ◌≈◌}
 use Rattle.integers.proofs.Multiples.{times_zero, times_suc}
-use Rattle.octagon.specs.declared.Octagon.{Octagon}
+use Rattle.octagon.specs.Octagon.{Octagon}
 use Rattle.octagon.specs.Cells.{◌≐◌, In}
 use Rattle.octagon.proofs.Within.{Normal}
 use Rattle.morphology.specs.Sets.{DilatedTimes, ErodedTimes}

@@ -2,7 +2,7 @@
 -- Assumes nothing.
 use mathlib.Core.Path.{◌≡◌, refl}
 use Prim.Native.Nat.{ℕ}
-use Rattle.octagon.specs.declared.Octagon.{Octagon}
+use Rattle.octagon.specs.Octagon.{Octagon}
 use Rattle.octagon.specs.Outcome.{Outcome, accepted, refused, then, no_cell, off_map}
 use Rattle.octagon.specs.Cells.{Cells, ◌≐◌, Empty, Some, In, LeavesMap, Smallest}
 use Rattle.octagon.specs.NormalForm.{normal_form, normalised}

@@ -5,7 +5,7 @@ use mathlib.Core.Logic.{◌↔◌, inl, inr}
 use mathlib.Core.Bool.{true}
 use lib.IntN.{ℤ}
 use Rattle.integers.proofs.Tests.{cases, true_is_not_false}
-use Rattle.octagon.specs.declared.Octagon.{Octagon}
+use Rattle.octagon.specs.Octagon.{Octagon}
 use Rattle.octagon.specs.Cells.{Cells, ◌≐◌, Some, In, Normalised, Smallest}
 use Rattle.octagon.specs.NormalForm.{normal_form}
 use Rattle.octagon.proofs.Vertices.{normal_normalised}

@@ -1,7 +1,7 @@
 -- Bounds that are made of two octagons' bounds as a function reads them back from memory. Assumes nothing.
 use mathlib.Core.Path.{◌≡◌, ◌∙◌, ap₂}
 use mir.Syntax.{Width}
-use Rattle.octagon.specs.declared.Octagon.{Octagon}
+use Rattle.octagon.specs.Octagon.{Octagon}
 use Rattle.octagon.specs.Widths.{Held}
 use Rattle.octagon.proofs.Fields.{back, back_is}
 

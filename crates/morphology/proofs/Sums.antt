@@ -5,7 +5,7 @@ use native.Mathlib.Omega.{arith}
 use lib.IntN.{ℤ, ◌+ℤ◌, ◌-ℤ◌}
 use Rattle.integers.proofs.Parts.{sum_parts, diff_parts}
 use Rattle.integers.proofs.Linear.{#, ◌⊕◌, neg, ◌≈◌, int, int_parts, same}
-use Rattle.octagon.specs.declared.Octagon.{Octagon}
+use Rattle.octagon.specs.Octagon.{Octagon}
 use Rattle.octagon.specs.Cells.{Cells, ◌⊆◌, ◌≐◌, In}
 use Rattle.octagon.proofs.Within.{Within, Normal, within, cell_in}
 use Rattle.octagon.proofs.Unique.{both_ways}

@@ -11,7 +11,7 @@ use Rattle.integers.proofs.Multiples.{times_near}
 use Rattle.integers.specs.Range.{roof}
 use Rattle.integers.proofs.Products.{product_fits}
 use Rattle.integers.proofs.Range.{near_fits, room_near}
-use Rattle.octagon.specs.declared.Octagon.{Octagon}
+use Rattle.octagon.specs.Octagon.{Octagon}
 use Rattle.octagon.specs.Cells.{limit}
 use Rattle.octagon.specs.NormalForm.{is_on_map}
 use Rattle.octagon.specs.Widths.{Held, Roomy}

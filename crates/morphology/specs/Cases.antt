@@ -1,7 +1,7 @@
 -- Which answer each operation gives, in terms of sets: document 01's checks, one after the other, in its order, and document 02's mark.
 -- "Checks are made in the order written; all of the first operand's come before the second's." Assumes nothing.
 use Rattle.std.specs.Prelude.{◌≡◌, ◌↔◌, true, false, ℕ, ◌<◌, ◌≤◌}
-use Rattle.octagon.specs.declared.Octagon.{Octagon}
+use Rattle.octagon.specs.Octagon.{Octagon}
 use Rattle.octagon.specs.Outcome.{Outcome, accepted, refused, no_cell, off_map}
 use Rattle.octagon.specs.Cells.{Cells, ◌⊆◌, ◌≐◌, Empty, In, OnMap, LeavesMap, Represents, Smallest}
 use Rattle.morphology.specs.Sets.{Dilated, Eroded, Opened, Closed, DilatedTimes, ErodedTimes, OpenedTimes, OpposedRows}

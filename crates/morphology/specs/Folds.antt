@@ -1,6 +1,6 @@
 -- The answers of `dilate_n`, `erode_n` and `closing`: definitions that compute. proofs/ says what they mean in sets. Assumes nothing.
 use Rattle.std.specs.Prelude.{Bool, cond, ◌&&◌, ℕ, ltb, pos, ◌*ℤ◌}
-use Rattle.octagon.specs.declared.Octagon.{Octagon}
+use Rattle.octagon.specs.Octagon.{Octagon}
 use Rattle.octagon.specs.Outcome.{Outcome, refused, then}
 use Rattle.octagon.specs.NormalForm.{placed}
 use Rattle.morphology.specs.Marks.{Marked, marked}

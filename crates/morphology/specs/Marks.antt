@@ -1,9 +1,11 @@
 -- Marks: an octagon that a call hands back exact or filled (document 02's U4), and each case of `Spread`. Assumes nothing.
-use Rattle.std.specs.Prelude.{Bool, true, false}
-use Rattle.octagon.specs.declared.Octagon.{Octagon}
+use Rattle.std.specs.Prelude.{Bool, true, false, Result, Ok, Err}
+use Rattle.octagon.specs.Octagon.{Octagon}
+use Rattle.octagon.specs.declared.refusal.Refusal.{Refusal}
 use Rattle.octagon.specs.Outcome.{Outcome, accepted, refused, then}
+use Rattle.octagon.specs.Answers.{refusal_number}
 use Rattle.morphology.specs.declared.Spread.{Spread}
-use Rattle.morphology.specs.declared.Spread.TheVariants.{Exact, Filled, Refused}
+use Rattle.morphology.specs.declared.Spread.TheVariants.{Exact, Filled}
 
 -- an octagon and its mark
 pub record Marked : Type 0 where
@@ -18,11 +20,15 @@ exact a = record { is_filled = false; octagon = a }
 abbrev pub filled : Octagon → Marked
 filled a = record { is_filled = true; octagon = a }
 
--- the value of each case of `Spread`, and the number of a refusal
-abbrev pub spread_outcome : Spread → Outcome Marked
-spread_outcome (Exact a) = accepted (exact a)
-spread_outcome (Filled a) = accepted (filled a)
-spread_outcome (Refused k) = refused k
+-- the octagon of each case of `Spread`, with its mark
+abbrev pub marked_of : Spread → Marked
+marked_of (Exact a) = exact a
+marked_of (Filled a) = filled a
+
+-- what a call that spreads answers: the octagon with its mark, or the number of its refusal
+abbrev pub spread_outcome : Result Spread Refusal → Outcome Marked
+spread_outcome (Ok s) = accepted (marked_of s)
+spread_outcome (Err e) = refused (refusal_number e)
 
 -- an answer with a mark; a refusal has none
 abbrev pub marked : Bool → Outcome Octagon → Outcome Marked

@@ -1,7 +1,7 @@
 -- The answers of `dilate`, `erode` and `opening`: definitions that compute. proofs/ says what they mean in sets. Assumes nothing.
 use Rattle.std.specs.Prelude.{Bool, cond, ◌&&◌, ◌||◌, ℕ, eqb, ℤ, pos, ◌+ℤ◌, ◌-ℤ◌}
 use Rattle.std.specs.Int.Signed.{le_z}
-use Rattle.octagon.specs.declared.Octagon.{Octagon}
+use Rattle.octagon.specs.Octagon.{Octagon}
 use Rattle.octagon.specs.Outcome.{Outcome, accepted, refused, then, no_cell}
 use Rattle.octagon.specs.NormalForm.{normalised, placed}
 use Rattle.morphology.specs.Marks.{Marked, marked}

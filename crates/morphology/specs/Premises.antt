@@ -1,7 +1,7 @@
 -- The words of the laws of demand 3 ("What the laws compare" of document 01) and of document 02's U7 and U8: what they ask of the calls that
 -- they name, and what those with several parts say. Assumes nothing.
 use Rattle.std.specs.Prelude.{◌≡◌, ◌↔◌, ◌⊎◌, ℕ}
-use Rattle.octagon.specs.declared.Octagon.{Octagon}
+use Rattle.octagon.specs.Octagon.{Octagon}
 use Rattle.octagon.specs.Outcome.{Outcome, accepted, refused, then, off_map}
 use Rattle.octagon.specs.Cells.{◌⊆◌, In}
 use Rattle.octagon.specs.NormalForm.{normalised}

@@ -2,8 +2,7 @@
 // after each other.
 ghost use Rattle.std.specs.Prelude.{◌≡◌, ◌≤◌};
 ghost use Rattle.octagon.specs.Answers.{outcome};
-ghost use Rattle.octagon.specs.Outcome.{accepted};
-ghost use Rattle.octagon.specs.NormalForm.{normalised};
+ghost use Rattle.octagon.specs.Forms.{form_outcome};
 ghost use Rattle.morphology.specs.Marks.{spread_outcome, unmarked};
 ghost use Rattle.morphology.specs.Premises.{opened_n};
 ghost use Rattle.morphology.specs.Folds as spec;
@@ -12,63 +11,46 @@ use crate::Spread;
 use crate::bounds::{fit_wide, multiples, place_wide, wide_differences, wide_sums};
 use crate::rows::are_opposed;
 use octagon::bounds::{narrow, widen};
-use octagon::{Answer, Octagon, normalise};
+use octagon::{NormalForm, Octagon, Refusal};
 
 // The most folds of a call.
 pub const FOLD_LIMIT: u32 = 65_535;
 
-// The refusal number of document 01 that this file adds.
-pub const TOO_MANY_FOLDS: u32 = 6;
-
 // The plot dilated n times by the element; filled where n is at least 1 and the two are opposed rows.
-pub fn dilate_n(plot: Octagon, element: Octagon, n: u32) -> Spread
+#[tactic(auto, unfolding(crate::specs::Folds::dilation_n))]
+pub fn dilate_n(plot: Octagon, element: Octagon, n: u32) -> Result<Spread, Refusal>
     ensures { spread_outcome result ≡ spec.dilation_n plot element n }
 {
     if FOLD_LIMIT < n {
-        return Spread::Refused(TOO_MANY_FOLDS);
+        return Err(Refusal::TooManyFolds);
     }
-    let first = normalise(plot);
-    let Answer::Octagon(a) = first else {
-        return Spread::new(first, false);
-    };
-    let second = normalise(element);
-    let Answer::Octagon(b) = second else {
-        return Spread::new(second, false);
-    };
-    Spread::new(
-        place_wide(wide_sums(widen(a), multiples(n, b))),
-        (0 < n) & are_opposed(a, b),
-    )
+    let a = NormalForm::of(plot)?;
+    let b = NormalForm::of(element)?;
+    let spread = place_wide(wide_sums(widen(a.bounds), multiples(n, b.bounds)))?;
+    Ok(Spread::new(spread, (0 < n) & are_opposed(a.bounds, b.bounds)))
 }
 
 // The plot eroded n times by the element.
-pub fn erode_n(plot: Octagon, element: Octagon, n: u32) -> Answer
+#[tactic(auto, unfolding(crate::specs::Folds::erosion_n))]
+pub fn erode_n(plot: Octagon, element: Octagon, n: u32) -> Result<Octagon, Refusal>
     ensures { outcome result ≡ spec.erosion_n plot element n }
 {
     if FOLD_LIMIT < n {
-        return Answer::Refused(TOO_MANY_FOLDS);
+        return Err(Refusal::TooManyFolds);
     }
-    let first = normalise(plot);
-    let Answer::Octagon(a) = first else {
-        return first;
-    };
-    let second = normalise(element);
-    let Answer::Octagon(b) = second else {
-        return second;
-    };
-    fit_wide(wide_differences(widen(a), multiples(n, b)))
+    let a = NormalForm::of(plot)?;
+    let b = NormalForm::of(element)?;
+    Ok(fit_wide(wide_differences(widen(a.bounds), multiples(n, b.bounds)))?.bounds)
 }
 
-// A plot opened by n folds of an element, both normalised: n trims, and then n spreads of what they leave. It lies in the plot, so the
-// spreads are on the map. It asks for normal forms, and is for `spectrum`, not for users.
-pub fn open_forms_n(a: Octagon, b: Octagon, n: u32) -> Answer
-    requires { (normalised a ≡ accepted a) × (normalised b ≡ accepted b) × (n ≤ spec.fold_limit) }
-    ensures { outcome result ≡ unmarked (opened_n a b n) }
+// A plot opened by n folds of an element: n trims, and then n spreads of what they leave. It lies in the plot, so the spreads are on the
+// map. It asks for few enough folds, and is for `spectrum`, not for users.
+pub fn open_forms_n(a: NormalForm, b: NormalForm, n: u32) -> Result<NormalForm, Refusal>
+    requires { n ≤ spec.fold_limit }
+    ensures { form_outcome result ≡ unmarked (opened_n a.bounds b.bounds n) }
 {
-    let folded = multiples(n, b);
-    let eroded = fit_wide(wide_differences(widen(a), folded));
-    let Answer::Octagon(left) = eroded else {
-        return eroded;
-    };
-    Answer::Octagon(narrow(wide_sums(widen(left), folded)))
+    let folded = multiples(n, b.bounds);
+    let left = fit_wide(wide_differences(widen(a.bounds), folded))?;
+    let opened = narrow(wide_sums(widen(left.bounds), folded));
+    Ok(NormalForm { bounds: opened })
 }

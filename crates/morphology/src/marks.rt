@@ -1,45 +1,35 @@
-// An answer with a mark, exact or filled: how it is made, and taken apart.
+// An octagon with a mark, exact or filled: how it is made, and taken apart.
 ghost use Rattle.std.specs.Prelude.{◌≡◌};
-ghost use Rattle.octagon.specs.Answers.{outcome};
 ghost use Rattle.morphology.specs.Marks as marks;
 
 use crate::Spread;
-use octagon::Answer;
+use octagon::Octagon;
 
 impl Spread {
-    // An answer, marked filled or exact; a refusal has no mark.
-    pub fn new(answer: Answer, filled: bool) -> Self
-        ensures { marks.spread_outcome result ≡ marks.marked filled (outcome answer) }
+    // An octagon, marked filled or exact.
+    pub fn new(octagon: Octagon, filled: bool) -> Self
+        ensures { marks.marked_of result ≡ record { is_filled = filled; octagon = octagon } }
     {
-        match answer {
-            Answer::Octagon(o) => if filled {
-                Spread::Filled(o)
-            } else {
-                Spread::Exact(o)
-            },
-            Answer::Refused(number) => Spread::Refused(number),
+        if filled {
+            Spread::Filled(octagon)
+        } else {
+            Spread::Exact(octagon)
         }
     }
 
-    // The answer without its mark.
-    pub fn answer(self) -> Answer
-        ensures { outcome result ≡ marks.unmarked (marks.spread_outcome self) }
+    // The octagon without its mark.
+    pub fn octagon(self) -> Octagon
+        ensures { result ≡ (marks.marked_of self).octagon }
     {
         match self {
-            Spread::Exact(o) => Answer::Octagon(o),
-            Spread::Filled(o) => Answer::Octagon(o),
-            Spread::Refused(number) => Answer::Refused(number),
+            Spread::Exact(octagon) | Spread::Filled(octagon) => octagon,
         }
     }
 
-    // Whether it is an octagon that is filled.
+    // Whether it is filled.
     pub fn is_filled(self) -> bool
-        ensures { result ≡ marks.fills (marks.spread_outcome self) }
+        ensures { result ≡ (marks.marked_of self).is_filled }
     {
-        match self {
-            Spread::Exact(_) => false,
-            Spread::Filled(_) => true,
-            Spread::Refused(_) => false,
-        }
+        matches!(self, Spread::Filled(_))
     }
 }

@@ -13,6 +13,7 @@ fn is_row(p: i32, q: i32, s: i32, t: i32) -> bool
 }
 
 // Whether normalised bounds are those of a row on a line x - y.
+#[tactic(auto, unfolding(crate::specs::Operations::is_rising))]
 fn is_rising(o: Octagon) -> bool
     ensures { result ≡ operations.is_rising o }
 {
@@ -20,6 +21,7 @@ fn is_rising(o: Octagon) -> bool
 }
 
 // Whether normalised bounds are those of a row on a line x + y.
+#[tactic(auto, unfolding(crate::specs::Operations::is_falling))]
 fn is_falling(o: Octagon) -> bool
     ensures { result ≡ operations.is_falling o }
 {
@@ -27,6 +29,7 @@ fn is_falling(o: Octagon) -> bool
 }
 
 // Whether two octagons are diagonal rows, one of each kind.
+#[tactic(auto, unfolding(crate::specs::Operations::are_opposed))]
 pub fn are_opposed(a: Octagon, b: Octagon) -> bool
     ensures { result ≡ operations.are_opposed a b }
 {

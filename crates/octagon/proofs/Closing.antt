@@ -3,7 +3,7 @@ use mathlib.Core.Path.{refl}
 use native.Mathlib.Omega.{arith}
 use lib.IntN.{ℤ}
 use Rattle.integers.proofs.Linear.{Diff, #, ◌⊕◌, neg, lit, ◌≼◌, ◌≈◌}
-use Rattle.octagon.specs.declared.Octagon.{Octagon}
+use Rattle.octagon.specs.Octagon.{Octagon}
 use Rattle.octagon.specs.NormalForm.{odd_bound, tight_even, tight_odd, normal_form}
 use Rattle.octagon.proofs.Within.{Normal}
 use Rattle.octagon.proofs.Tight.{Under, Below, even_under, even_over, odd_under, odd_over}

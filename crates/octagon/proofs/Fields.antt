@@ -4,7 +4,7 @@ use lib.IntN.{ℤ}
 use mir.Syntax.{Width}
 use mir.Val.{to_z, of_z}
 use mir.Facts.{to_z-of_z}
-use Rattle.octagon.specs.declared.Octagon.{Octagon}
+use Rattle.octagon.specs.Octagon.{Octagon}
 use Rattle.octagon.specs.Widths.{Held}
 
 -- eight bounds as a width's bits give them back

@@ -8,6 +8,7 @@ pub mod Vertices
 pub mod Map
 pub mod Normalising
 pub mod Outcomes
+pub mod Refusals
 pub mod Unique
 pub mod Sides
 pub mod NormalForms

@@ -13,7 +13,7 @@ use Rattle.integers.proofs.Linear.{#, lit}
 use Rattle.integers.proofs.Tests.{and_le, test_le, le_test, and_true, true_is_not_false}
 use Rattle.integers.proofs.Between.{decide}
 use Rattle.integers.proofs.Range.{room_near, room_fits32}
-use Rattle.octagon.specs.declared.Octagon.{Octagon}
+use Rattle.octagon.specs.Octagon.{Octagon}
 use Rattle.octagon.specs.Cells.{Cells, ◌⊆◌, Some, In, Square, Leaves, OnMap, LeavesMap, ReachedBy, Normalised, limit}
 use Rattle.octagon.specs.NormalForm.{is_within, is_on_map}
 use Rattle.octagon.specs.Widths.{Held}

@@ -4,7 +4,7 @@ use mathlib.Core.Path.{◌≡◌, refl, sym, ◌∙◌, ap}
 use mathlib.Core.Logic.{◌↔◌, ◌⊎◌, inl, inr}
 use Prim.Native.Nat.{ℕ}
 use native.Mathlib.Omega.{arith}
-use Rattle.octagon.specs.declared.Octagon.{Octagon}
+use Rattle.octagon.specs.Octagon.{Octagon}
 use Rattle.octagon.specs.Outcome.{Outcome, accepted, refused, no_cell, off_map}
 use Rattle.octagon.specs.Cells.{◌⊆◌, ◌≐◌, Empty, Some, In, OnMap, LeavesMap, Normalised, OnlyOne, Represents}
 use Rattle.octagon.specs.NormalForm.{normal_form, normalised}

@@ -8,7 +8,7 @@ use mir.Syntax.{w32}
 use Rattle.integers.proofs.Parts.{up, dn, sum_parts}
 use Rattle.integers.proofs.Linear.{#, ◌⊕◌, lit, ◌≼◌}
 use Rattle.integers.proofs.Tests.{cases, both_true, test_le, le_test, and_true, true_is_not_false}
-use Rattle.octagon.specs.declared.Octagon.{Octagon}
+use Rattle.octagon.specs.Octagon.{Octagon}
 use Rattle.octagon.specs.Outcome.{Outcome, accepted, refused, no_cell, off_map}
 use Rattle.octagon.specs.Cells.{◌≐◌, Empty, Some, In, LeavesMap}
 use Rattle.octagon.specs.NormalForm.{meet, has_cell, is_on_map, placed, normal_form, normalised}

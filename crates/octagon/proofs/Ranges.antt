@@ -4,7 +4,7 @@ use lib.IntN.{ℤ, ◌+ℤ◌}
 use mir.Syntax.{w32, w64}
 use Rattle.integers.specs.Range.{Room}
 use Rattle.integers.proofs.Range.{room_fits, room_less, room_i32, room_add, room_half, room_min}
-use Rattle.octagon.specs.declared.Octagon.{Octagon}
+use Rattle.octagon.specs.Octagon.{Octagon}
 use Rattle.octagon.specs.NormalForm.{even_bound, odd_bound, tight_even, tight_odd, normal_form}
 use Rattle.octagon.specs.Widths.{Held, Roomy}
 

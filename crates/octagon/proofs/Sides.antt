@@ -5,7 +5,7 @@ use lib.IntN.{ℤ, pos, ◌+ℤ◌}
 use lib.Signed.{◌≤ℤ◌}
 use Rattle.integers.proofs.Parts.{up, dn, sum_parts, diff_parts, le_parts, parts_eq}
 use Rattle.integers.proofs.Linear.{#, ◌⊕◌, neg, lit, ◌≼◌, ◌≈◌, le}
-use Rattle.octagon.specs.declared.Octagon.{Octagon}
+use Rattle.octagon.specs.Octagon.{Octagon}
 use Rattle.octagon.specs.Cells.{Normalised}
 use Rattle.octagon.specs.NormalForm.{sides, even_side, odd_side, NoughtOrMore, SidesClose}
 use Rattle.octagon.proofs.Within.{Normal}

@@ -9,7 +9,7 @@ use lib.IntN.{ℤ, pos}
 use mir.Syntax.{w32}
 use Rattle.integers.proofs.Parts.{up, dn}
 use Rattle.integers.proofs.Tests.{cases}
-use Rattle.octagon.specs.declared.Octagon.{Octagon}
+use Rattle.octagon.specs.Octagon.{Octagon}
 use Rattle.octagon.specs.Outcome.{accepted, refused, off_map}
 use Rattle.octagon.specs.Cells.{Cells, ◌⊆◌, ◌≐◌, Some, In, OnMap, LeavesMap, ReachedBy, Normalised, Smallest, limit}
 use Rattle.octagon.specs.NormalForm.{is_on_map, placed, normalised}

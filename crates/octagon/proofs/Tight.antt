@@ -5,7 +5,7 @@ use Rattle.integers.specs.Minimum.{min_ℤ, half_ℤ}
 use Rattle.integers.proofs.Parts.{sum_parts}
 use Rattle.integers.proofs.Linear.{Diff, #, ◌⊕◌, neg, ◌≼◌}
 use Rattle.integers.proofs.Minimum.{min_ind, min_left, min_right, halved}
-use Rattle.octagon.specs.declared.Octagon.{Octagon}
+use Rattle.octagon.specs.Octagon.{Octagon}
 use Rattle.octagon.specs.NormalForm.{even_bound, odd_bound, tight_even, tight_odd, normal_form}
 use Rattle.octagon.proofs.Within.{Within}
 

@@ -5,7 +5,7 @@ use lib.IntN.{ℤ, neg_ℤ, ◌+ℤ◌, ◌-ℤ◌}
 use lib.Signed.{◌≤ℤ◌}
 use Rattle.integers.proofs.Parts.{le_parts, parts_eq}
 use Rattle.integers.proofs.Linear.{#, ◌≼◌}
-use Rattle.octagon.specs.declared.Octagon.{Octagon}
+use Rattle.octagon.specs.Octagon.{Octagon}
 use Rattle.octagon.specs.Cells.{Cells, ◌⊆◌, ◌≐◌, Some, In, ReachedBy, Reached}
 
 -- eight bounds that are equal

@@ -5,7 +5,7 @@ use native.Mathlib.Omega.{arith}
 use lib.IntN.{ℤ, neg_ℤ, ◌+ℤ◌, ◌-ℤ◌}
 use Rattle.integers.proofs.Parts.{sum_parts, diff_parts, neg_up, neg_dn, eq_parts}
 use Rattle.integers.proofs.Linear.{Diff, #, ◌⊕◌, neg, ◌≼◌, ◌≈◌, same}
-use Rattle.octagon.specs.declared.Octagon.{Octagon}
+use Rattle.octagon.specs.Octagon.{Octagon}
 use Rattle.octagon.specs.Cells.{Some, In, Reached, Normalised}
 use Rattle.octagon.proofs.Within.{Within, Normal, within, cell_in}
 

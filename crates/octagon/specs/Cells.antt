@@ -1,6 +1,6 @@
 -- Octagons as sets of cells, in the words of documents 01 and 02. This file is what a reader must believe of sets. Assumes nothing.
 use Rattle.std.specs.Prelude.{◌≡◌, ◌↔◌, ◌⊎◌, ℕ, ℤ, pos, neg_ℤ, ◌+ℤ◌, ◌-ℤ◌, ◌≤ℤ◌}
-use Rattle.octagon.specs.declared.Octagon.{Octagon}
+use Rattle.octagon.specs.Octagon.{Octagon}
 
 -- a set of cells: what is said of the cell (x, y)
 abbrev pub Cells : Type 1

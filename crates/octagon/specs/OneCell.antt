@@ -1,7 +1,7 @@
 -- One cell: the set of it alone, and its octagon. proofs/OneCell.antt says that the octagon is the smallest that holds the set.
 -- Assumes nothing.
 use Rattle.std.specs.Prelude.{◌≡◌, ℤ, neg_ℤ, ◌+ℤ◌, ◌-ℤ◌}
-use Rattle.octagon.specs.declared.Octagon.{Octagon}
+use Rattle.octagon.specs.Octagon.{Octagon}
 use Rattle.octagon.specs.Cells.{Cells}
 
 -- document 01's "one cell": the cell (i, j) alone

@@ -3,7 +3,7 @@ use Rattle.std.specs.Prelude.{ℕ}
 use Rattle.std.specs.Int.{Width}
 use Rattle.std.proofs.Common.{SFits}
 use Rattle.integers.specs.Range.{Room}
-use Rattle.octagon.specs.declared.Octagon.{Octagon}
+use Rattle.octagon.specs.Octagon.{Octagon}
 
 -- each bound fits a signed width
 pub record Held (w : Width) (c : Octagon) : Type 0 where

@@ -7,35 +7,17 @@ ghost use Rattle.octagon.specs.NormalForm as form;
 ghost use Rattle.octagon.specs.Answers.{outcome, octagon_of};
 ghost use Rattle.octagon.specs.Widths.{Held, Roomy};
 
-use crate::{Answer, NO_CELL, OFF_MAP, Octagon, on_map};
-use integers::{half, lesser};
+use crate::{Octagon, Refusal, on_map};
+use integers::half;
 
-#[derive(Clone, Copy)]
-pub struct Bounds {
-    pub c0: i64,
-    pub c1: i64,
-    pub c2: i64,
-    pub c3: i64,
-    pub c4: i64,
-    pub c5: i64,
-    pub c6: i64,
-    pub c7: i64,
-}
+// Eight bounds in 64 bits.
+pub type Bounds = Octagon<i64>;
 
-// The bounds of an octagon in 64 bits.
+// The bounds of an octagon in 64 bits. A function, as `narrow` is, which asks that the bounds fit and so is no `TryFrom`.
 pub fn widen(o: Octagon) -> Bounds
     ensures { octagon_of result ≡ o }
 {
-    Bounds {
-        c0: o.c0 as i64,
-        c1: o.c1 as i64,
-        c2: o.c2 as i64,
-        c3: o.c3 as i64,
-        c4: o.c4 as i64,
-        c5: o.c5 as i64,
-        c6: o.c6 as i64,
-        c7: o.c7 as i64,
-    }
+    o.map(i64::from)
 }
 
 // The least that an even bound can be, from the two bounds on each side of it.
@@ -46,25 +28,26 @@ fn even_bound(far_before: i64, before: i64, own: i64, after: i64, far_after: i64
     requires room_4 { Room 1 far_after }
     ensures { result ≡ form.even_bound far_before before own after far_after }
 {
-    lesser(
-        lesser(own, far_before + after),
-        lesser(before + far_after, half(before + after)),
-    )
+    own.min(far_before + after)
+        .min((before + far_after).min(half(before + after)))
 }
 
 // The even bounds made as small as they can be.
+#[tactic(auto, unfolding(crate::specs::NormalForm::tight_even))]
 fn tighten_even(b: Bounds) -> Bounds
     requires { Roomy 3 (octagon_of b) }
     ensures { octagon_of result ≡ form.tight_even (octagon_of b) }
 {
-    let c0 = b.c0;
-    let c1 = b.c1;
-    let c2 = b.c2;
-    let c3 = b.c3;
-    let c4 = b.c4;
-    let c5 = b.c5;
-    let c6 = b.c6;
-    let c7 = b.c7;
+    let Bounds {
+        c0,
+        c1,
+        c2,
+        c3,
+        c4,
+        c5,
+        c6,
+        c7,
+    } = b;
     Bounds {
         c0: even_bound(c6, c7, c0, c1, c2),
         c1,
@@ -83,22 +66,25 @@ fn odd_bound(before: i64, own: i64, after: i64) -> i64
     requires room_2 { Room 1 after }
     ensures { result ≡ form.odd_bound before own after }
 {
-    lesser(own, before + after)
+    own.min(before + after)
 }
 
 // The odd bounds made as small as they can be beside the even ones.
+#[tactic(auto, unfolding(crate::specs::NormalForm::tight_odd))]
 fn tighten_odd(b: Bounds) -> Bounds
     requires { Roomy 2 (octagon_of b) }
     ensures { octagon_of result ≡ form.tight_odd (octagon_of b) }
 {
-    let c0 = b.c0;
-    let c1 = b.c1;
-    let c2 = b.c2;
-    let c3 = b.c3;
-    let c4 = b.c4;
-    let c5 = b.c5;
-    let c6 = b.c6;
-    let c7 = b.c7;
+    let Bounds {
+        c0,
+        c1,
+        c2,
+        c3,
+        c4,
+        c5,
+        c6,
+        c7,
+    } = b;
     Bounds {
         c0,
         c1: odd_bound(c0, c1, c2),
@@ -121,6 +107,7 @@ fn meet(a: i64, b: i64) -> bool
 }
 
 // Whether a normal form has a cell.
+#[tactic(auto, unfolding(crate::specs::NormalForm::has_cell))]
 fn has_cell(b: Bounds) -> bool
     requires { Roomy 1 (octagon_of b) }
     ensures { result ≡ form.has_cell (octagon_of b) }
@@ -129,6 +116,7 @@ fn has_cell(b: Bounds) -> bool
 }
 
 // Whether normalised bounds are on the map.
+#[tactic(auto, unfolding(crate::specs::NormalForm::is_on_map))]
 pub fn is_on_map(b: Bounds) -> bool
     ensures { result ≡ form.is_on_map (octagon_of b) }
 {
@@ -140,27 +128,21 @@ pub fn narrow(b: Bounds) -> Octagon
     requires { Held w32 (octagon_of b) }
     ensures { result ≡ octagon_of b }
 {
-    Octagon {
-        c0: b.c0 as i32,
-        c1: b.c1 as i32,
-        c2: b.c2 as i32,
-        c3: b.c3 as i32,
-        c4: b.c4 as i32,
-        c5: b.c5 as i32,
-        c6: b.c6 as i32,
-        c7: b.c7 as i32,
-    }
+    b.map(|c| c as i32)
 }
 
-// The normal form, or the number of the refusal: what `normalise` answers, of bounds that leave room for sums of eight.
-pub fn normalise_bounds(w: Bounds) -> Answer
+// What `normalise` answers, of bounds that leave room for sums of eight. That they do is asked here, in `tighten_even` and in `fit_wide`: a
+// type of such bounds would be made and taken apart at each of the three.
+pub fn normalise_bounds(w: Bounds) -> Result<Octagon, Refusal>
     requires { Roomy 3 (octagon_of w) }
     ensures { outcome result ≡ form.normalised (octagon_of w) }
 {
     let b = tighten_odd(tighten_even(w));
-    let some = has_cell(b);
-    if some & is_on_map(b) {
-        return Answer::Octagon(narrow(b));
+    if !has_cell(b) {
+        return Err(Refusal::NoCell);
     }
-    Answer::Refused(if some { OFF_MAP } else { NO_CELL })
+    if !is_on_map(b) {
+        return Err(Refusal::OffMap);
+    }
+    Ok(narrow(b))
 }

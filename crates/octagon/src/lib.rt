@@ -10,25 +10,24 @@ ghost use Rattle.octagon.specs.NormalForm as form;
 ghost use Rattle.octagon.specs.Answers.{outcome};
 
 pub mod bounds;
+mod each;
+mod form;
+mod refusal;
 
-// Document 01's plot, frame or clearance: eight bounds, every value allowed.
-#[derive(Clone, Copy)]
-pub struct Octagon {
-    pub c0: i32,
-    pub c1: i32,
-    pub c2: i32,
-    pub c3: i32,
-    pub c4: i32,
-    pub c5: i32,
-    pub c6: i32,
-    pub c7: i32,
-}
+pub use form::NormalForm;
+pub use refusal::Refusal;
 
-// An octagon, or the number of the refusal.
-#[derive(Clone, Copy)]
-pub enum Answer {
-    Octagon(Octagon),
-    Refused(u32),
+// Document 01's plot, frame or clearance: eight bounds, every value allowed. In 64 bits they are `bounds::Bounds`.
+#[derive(Clone, Copy, Debug, PartialEq, Eq, Hash)]
+pub struct Octagon<T = i32> {
+    pub c0: T,
+    pub c1: T,
+    pub c2: T,
+    pub c3: T,
+    pub c4: T,
+    pub c5: T,
+    pub c6: T,
+    pub c7: T,
 }
 
 impl Octagon {
@@ -63,16 +62,11 @@ impl Octagon {
     }
 }
 
-// The refusal numbers of document 01 that this crate gives.
-pub const NO_CELL: u32 = 1;
-
-pub const OFF_MAP: u32 = 2;
-
 // The normal form of any eight bounds: the same cells, each bound reached. Refuses bounds with no cell, then those with a cell off the map.
-pub fn normalise(o: Octagon) -> Answer
+pub fn normalise(o: Octagon) -> Result<Octagon, Refusal>
     ensures { outcome result ≡ form.normalised o }
 {
-    bounds::normalise_bounds(bounds::widen(o))
+    Ok(NormalForm::of(o)?.bounds)
 }
 
 // Whether a bound is at most r.

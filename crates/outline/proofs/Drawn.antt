@@ -8,7 +8,7 @@ use lib.IntN.{neg_ℤ}
 use mir.Syntax.{w32}
 use Rattle.integers.proofs.Parts.{sum_parts, diff_parts, neg_up, neg_dn}
 use Rattle.integers.proofs.Linear.{#, ◌⊕◌, neg, lit, ◌≈◌}
-use Rattle.octagon.specs.declared.Octagon.{Octagon}
+use Rattle.octagon.specs.Octagon.{Octagon}
 use Rattle.octagon.specs.NormalForm.{is_on_map}
 use Rattle.octagon.specs.Widths.{Held}
 use Rattle.octagon.proofs.Within.{Normal}

@@ -11,7 +11,7 @@ use mir.Facts.{to_z-of_z}
 use Rattle.integers.proofs.Parts.{up, dn, diff_parts, neg_up, neg_dn, le_parts}
 use Rattle.integers.proofs.Linear.{#, ◌⊕◌, lit, ◌≼◌}
 use Rattle.integers.proofs.Range.{room_near, room_fits32}
-use Rattle.octagon.specs.declared.Octagon.{Octagon}
+use Rattle.octagon.specs.Octagon.{Octagon}
 use Rattle.octagon.specs.Cells.{limit}
 use Rattle.octagon.specs.NormalForm.{sides, even_side, odd_side, normalised}
 use Rattle.octagon.specs.Outcome.{accepted}

@@ -13,4 +13,5 @@ pub mod RoundTrips
 pub mod Over
 pub mod Metres
 pub mod Sameness
+pub mod Derived
 pub mod Computed

@@ -4,7 +4,7 @@ use mathlib.Core.Logic.{◌↔◌}
 use native.Mathlib.Omega.{arith}
 use lib.IntN.{ℤ}
 use Rattle.integers.proofs.Parts.{eq_parts, parts_eq}
-use Rattle.octagon.specs.declared.Octagon.{Octagon}
+use Rattle.octagon.specs.Octagon.{Octagon}
 use Rattle.octagon.specs.Outcome.{accepted, refused, off_map}
 use Rattle.octagon.specs.Cells.{◌≐◌, In, OnMap}
 use Rattle.octagon.specs.OneCell.{OneCell}

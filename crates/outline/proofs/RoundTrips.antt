@@ -6,7 +6,7 @@ use native.Mathlib.Omega.{arith}
 use lib.IntN.{ℤ, nat_abs}
 use Rattle.integers.proofs.Parts.{diff_parts, neg_up, neg_dn, parts_eq}
 use Rattle.integers.proofs.Linear.{#, ◌⊕◌, neg, lit, ◌≼◌, ◌≈◌, natural}
-use Rattle.octagon.specs.declared.Octagon.{Octagon}
+use Rattle.octagon.specs.Octagon.{Octagon}
 use Rattle.octagon.specs.Outcome.{Outcome, accepted, refused}
 use Rattle.octagon.specs.NormalForm.{sides, even_side, odd_side, placed, normalised}
 use Rattle.octagon.proofs.Outcomes.{accepted_same, accepted_not_refused, map_accepted, map_refused}

@@ -45,13 +45,13 @@ same_self o = record { e0 = refl; e1 = refl; e2 = refl; e3 = refl; e4 = refl; e5
 
 -- ---- integers
 
-integer_is : (x y : ℤ) → same_integer x y ≡ true → x ≡ y
+pub integer_is : (x y : ℤ) → same_integer x y ≡ true → x ≡ y
 integer_is (pos a) (pos b) h = ap pos (eqb-true a b h)
 integer_is (pos a) (negsuc b) h = absurd (true_is_not_false (sym h))
 integer_is (negsuc a) (pos b) h = absurd (true_is_not_false (sym h))
 integer_is (negsuc a) (negsuc b) h = ap negsuc (eqb-true a b h)
 
-integer_self : (x : ℤ) → same_integer x x ≡ true
+pub integer_self : (x : ℤ) → same_integer x x ≡ true
 integer_self (pos a) = eq-eqb a a refl
 integer_self (negsuc a) = eq-eqb a a refl
 

@@ -4,7 +4,7 @@ use mathlib.Core.Path.{◌≡◌, refl, sym, ◌∙◌}
 use mathlib.Core.Bool.{cond}
 use Prim.Native.Nat.{ℕ, ◌≤◌}
 use Rattle.integers.proofs.Tests.{cases, true_is_not_false}
-use Rattle.octagon.specs.declared.Octagon.{Octagon}
+use Rattle.octagon.specs.Octagon.{Octagon}
 use Rattle.octagon.specs.Outcome.{Outcome, accepted, refused, then, off_map}
 use Rattle.octagon.specs.Cells.{In, Leaves, LeavesMap, limit}
 use Rattle.octagon.specs.NormalForm.{is_within, is_on_map, placed}

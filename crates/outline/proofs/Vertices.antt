@@ -7,7 +7,7 @@ use native.Mathlib.Omega.{arith}
 use lib.IntN.{ℤ, neg_ℤ}
 use Rattle.integers.proofs.Parts.{sum_parts, diff_parts, neg_up, neg_dn, eq_parts, parts_eq, parts_le}
 use Rattle.integers.proofs.Linear.{#, ◌⊕◌, neg, ◌≈◌, same}
-use Rattle.octagon.specs.declared.Octagon.{Octagon}
+use Rattle.octagon.specs.Octagon.{Octagon}
 use Rattle.octagon.specs.Outcome.{accepted}
 use Rattle.octagon.specs.Cells.{In}
 use Rattle.octagon.proofs.Within.{Within, within, cell_in}

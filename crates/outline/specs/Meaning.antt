@@ -1,6 +1,6 @@
 -- What the answers on outlines mean, in the words of document 01: records and sets that theorems speak of. Assumes nothing.
 use Rattle.std.specs.Prelude.{◌≡◌, [], ◌∷◌, ℕ, ◌+◌, ◌%◌, ◌≤◌, ℤ, pos, neg_ℤ, ◌+ℤ◌, ◌-ℤ◌, get_or, ◌≤ℤ◌}
-use Rattle.octagon.specs.declared.Octagon.{Octagon}
+use Rattle.octagon.specs.Octagon.{Octagon}
 use Rattle.octagon.specs.Cells.{Cells, ◌⊆◌, ◌≐◌, In, OnMap, Normalised}
 use Rattle.octagon.specs.Outcome.{accepted}
 use Rattle.outline.specs.declared.Outline.{Outline}

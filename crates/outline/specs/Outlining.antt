@@ -2,12 +2,10 @@
 use Rattle.std.specs.Prelude.{ℤ, pos, nat_abs, neg_ℤ, ◌-ℤ◌, ◌≤ℤ◌}
 use Rattle.std.specs.Int.{w32}
 use Rattle.std.proofs.Common.{Fits, SFits}
-use Rattle.octagon.specs.declared.Octagon.{Octagon}
-use Rattle.octagon.specs.Outcome.{Outcome, accepted, refused, then}
+use Rattle.octagon.specs.Octagon.{Octagon}
+use Rattle.octagon.specs.Outcome.{Outcome, accepted, then}
 use Rattle.octagon.specs.NormalForm.{sides, normalised}
 use Rattle.outline.specs.declared.Outline.{Outline}
-use Rattle.outline.specs.declared.Outlined.{Outlined}
-use Rattle.outline.specs.declared.Outlined.TheVariants.{Outline as Holds, Refused}
 
 -- the outline of normalised bounds: the start is (c0-c7, -c0), and the sides are those of document 01
 unfoldable pub outline_of : Octagon → Outline
@@ -27,11 +25,6 @@ outline_of a = record {
 -- what `to_outline` answers
 unfoldable pub outlined : Octagon → Outcome Outline
 outlined c = then (normalised c) (λ a. accepted (outline_of a))
-
--- document 01's number and values for each case of `Outlined`
-abbrev pub outcome : Outlined → Outcome Outline
-outcome (Holds o) = accepted o
-outcome (Refused n) = refused n
 
 -- a side is nought or more, and fits 32 bits
 pub record SideLength (z : ℤ) : Type 0 where

@@ -5,13 +5,11 @@ use Rattle.std.specs.Float.Ieee.{round}
 use Rattle.std.specs.Float.Ieee.Exact.{HasValue}
 use Rattle.std.specs.Int.{w32}
 use Rattle.std.proofs.Common.{SFits}
-use Rattle.octagon.specs.declared.Octagon.{Octagon}
+use Rattle.octagon.specs.Octagon.{Octagon}
 use Rattle.octagon.specs.Outcome.{Outcome, accepted, refused, then}
 use Rattle.outline.specs.declared.Outline.{Outline}
 use Rattle.outline.specs.declared.walk.Cell.{Cell}
 use Rattle.outline.specs.declared.place.Place.{Place}
-use Rattle.outline.specs.declared.Located.{Located}
-use Rattle.outline.specs.declared.Located.TheVariants.{Place as At, Refused}
 use Rattle.outline.specs.Walk.{vertex}
 use Rattle.outline.specs.Outlining.{outlined}
 
@@ -43,11 +41,6 @@ place_of_vertex o k = cond (ltb 7 k) (refused no_vertex) (accepted (place_of (ve
 -- what `vertex_place` answers
 unfoldable pub located : Octagon → ℕ → Outcome Place
 located c k = then (outlined c) (λ o. place_of_vertex o k)
-
--- document 01's number and values for each case of `Located`
-abbrev pub place_outcome : Located → Outcome Place
-place_outcome (At p) = accepted p
-place_outcome (Refused n) = refused n
 
 -- a cell whose coordinates fit 32 bits
 pub record HeldCell (v : Cell) : Type 0 where

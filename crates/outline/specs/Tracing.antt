@@ -1,6 +1,6 @@
 -- The octagon of an outline: definitions that compute. proofs/Tracings.antt says what they mean in sets. Assumes nothing.
 use Rattle.std.specs.Prelude.{cond, ℕ, neg_ℤ, ◌+ℤ◌, ◌-ℤ◌}
-use Rattle.octagon.specs.declared.Octagon.{Octagon}
+use Rattle.octagon.specs.Octagon.{Octagon}
 use Rattle.octagon.specs.Outcome.{Outcome, accepted, refused, then, off_map}
 use Rattle.octagon.specs.NormalForm.{is_within, placed}
 use Rattle.outline.specs.declared.Outline.{Outline}

@@ -13,9 +13,12 @@ east k = get_or (get_or steps k []) 0 (pos 0)
 abbrev pub north : ℕ → ℤ
 north k = get_or (get_or steps k []) 1 (pos 0)
 
--- the length of side k
+-- the lengths of the sides of an outline, n0 to n7, and of side k
+abbrev pub sides_of : Outline → List ℕ
+sides_of o = o.n0 ∷ o.n1 ∷ o.n2 ∷ o.n3 ∷ o.n4 ∷ o.n5 ∷ o.n6 ∷ o.n7 ∷ []
+
 abbrev pub side : Outline → ℕ → ℕ
-side o k = get_or (o.n0 ∷ o.n1 ∷ o.n2 ∷ o.n3 ∷ o.n4 ∷ o.n5 ∷ o.n6 ∷ o.n7 ∷ []) k 0
+side o k = get_or (sides_of o) k 0
 
 -- the outline of a start and the lengths of its sides; a side that is not listed is 0
 abbrev pub with_sides : ℤ → ℤ → List ℕ → Outline

@@ -8,7 +8,7 @@ ghost use Rattle.outline.specs.Tracing as tracing;
 
 use crate::Outline;
 use crate::walk::{Cell, vertex};
-use octagon::{Answer, OFF_MAP, Octagon, on_map};
+use octagon::{Octagon, Refusal, on_map};
 
 // The bounds that four vertices reach, where they fit 32 bits: bounds k-1 and k meet in vertex k.
 fn bounds_at(v1: Cell, v3: Cell, v5: Cell, v7: Cell) -> Octagon
@@ -28,7 +28,7 @@ fn bounds_at(v1: Cell, v3: Cell, v5: Cell, v7: Cell) -> Octagon
 }
 
 // The bounds of an outline as an answer: refused where they leave the map.
-pub fn draw(o: Outline) -> Answer
+pub fn draw(o: Outline) -> Result<Octagon, Refusal>
     requires { form.is_on_map (tracing.drawn o) ≡ true → Held w32 (tracing.drawn o) }
     ensures { outcome result ≡ form.placed (tracing.drawn o) }
 {
@@ -36,8 +36,8 @@ pub fn draw(o: Outline) -> Answer
     let v3 = vertex(o, 3);
     let v5 = vertex(o, 5);
     let v7 = vertex(o, 7);
-    if on_map(-v1.y, v3.x, v5.y, -v7.x) {
-        return Answer::Octagon(bounds_at(v1, v3, v5, v7));
+    if !on_map(-v1.y, v3.x, v5.y, -v7.x) {
+        return Err(Refusal::OffMap);
     }
-    Answer::Refused(OFF_MAP)
+    Ok(bounds_at(v1, v3, v5, v7))
 }

@@ -7,12 +7,13 @@
 #![tactic(auto)]
 
 ghost use Rattle.std.specs.Prelude.{◌≡◌};
-ghost use Rattle.octagon.specs.Answers.{outcome as octagon_outcome};
+ghost use Rattle.octagon.specs.Answers.{outcome};
 ghost use Rattle.outline.specs.Tracing.{traced};
-ghost use Rattle.outline.specs.Outlining.{outlined, outcome};
-ghost use Rattle.outline.specs.Places.{located, place_outcome};
+ghost use Rattle.outline.specs.Outlining.{outlined};
+ghost use Rattle.outline.specs.Places.{located};
+ghost use Rattle.outline.specs.Walk.{with_sides, sides_of};
 
-use octagon::{Answer, Octagon};
+use octagon::{NormalForm, Octagon, Refusal};
 use place::Place;
 
 mod closing;
@@ -25,7 +26,7 @@ pub mod tables;
 mod walk;
 
 // Document 01's outline: the start, its lowest corner and of the lowest the leftmost, and eight side lengths, counter-clockwise.
-#[derive(Clone, Copy)]
+#[derive(Clone, Copy, Debug, PartialEq, Eq, Hash)]
 pub struct Outline {
     pub i: i32,
     pub j: i32,
@@ -39,51 +40,59 @@ pub struct Outline {
     pub n7: u32,
 }
 
-// An outline, or the number of the refusal.
-#[derive(Clone, Copy)]
-pub enum Outlined {
-    Outline(Outline),
-    Refused(u32),
-}
-
-// A place, or the number of the refusal.
-#[derive(Clone, Copy)]
-pub enum Located {
-    Place(Place),
-    Refused(u32),
-}
-
-// The refusal numbers of document 01 that this crate adds.
-pub const NOT_CLOSED: u32 = 3;
-
-pub const NO_VERTEX: u32 = 7;
-
-// The octagon of an outline. Refuses one that does not close, then one with a cell off the map.
-pub fn to_octagon(o: Outline) -> Answer
-    ensures { octagon_outcome result ≡ traced o }
-{
-    if closing::closes(o) {
-        return drawing::draw(o);
+impl Outline {
+    // The outline of a start and the lengths of its sides.
+    pub fn with_sides(i: i32, j: i32, n: [u32; 8]) -> Outline
+        ensures { result ≡ with_sides i j n }
+    {
+        let [n0, n1, n2, n3, n4, n5, n6, n7] = n;
+        Outline {
+            i,
+            j,
+            n0,
+            n1,
+            n2,
+            n3,
+            n4,
+            n5,
+            n6,
+            n7,
+        }
     }
-    Answer::Refused(NOT_CLOSED)
+
+    // The lengths of its sides, n0 to n7.
+    pub fn sides(self) -> [u32; 8]
+        ensures { result ≡ sides_of self }
+    {
+        [
+            self.n0, self.n1, self.n2, self.n3, self.n4, self.n5, self.n6, self.n7,
+        ]
+    }
 }
 
-// The outline of any eight bounds: that of their normal form. Refuses what `normalise` refuses.
-pub fn to_outline(o: Octagon) -> Outlined
+// The octagon of an outline, under the name that README gives this conversion. Refuses one that does not close, then one with a cell off the map.
+#[tactic(auto, unfolding(crate::specs::Tracing::traced))]
+pub fn to_octagon(o: Outline) -> Result<Octagon, Refusal>
+    ensures { outcome result ≡ traced o }
+{
+    if !closing::closes(o) {
+        return Err(Refusal::NotClosed);
+    }
+    drawing::draw(o)
+}
+
+// The outline of any eight bounds, under the name that README gives it: that of their normal form. Refuses what `normalise` refuses.
+#[tactic(auto, unfolding(crate::specs::Outlining::outlined))]
+pub fn to_outline(o: Octagon) -> Result<Outline, Refusal>
     ensures { outcome result ≡ outlined o }
 {
-    match octagon::normalise(o) {
-        Answer::Octagon(a) => Outlined::Outline(sides::outline_of(a)),
-        Answer::Refused(n) => Outlined::Refused(n),
-    }
+    Ok(sides::outline_of(NormalForm::of(o)?))
 }
 
 // Document 01's corner in metres: vertex k of the octagon of any eight bounds. Refuses what `normalise` refuses, then a k above 7.
-pub fn vertex_place(o: Octagon, k: u32) -> Located
-    ensures { place_outcome result ≡ located o k }
+#[tactic(auto, unfolding(crate::specs::Places::located))]
+pub fn vertex_place(o: Octagon, k: u32) -> Result<Place, Refusal>
+    ensures { outcome result ≡ located o k }
 {
-    match to_outline(o) {
-        Outlined::Outline(t) => locating::place_of_vertex(t, k),
-        Outlined::Refused(n) => Located::Refused(n),
-    }
+    locating::place_of_vertex(to_outline(o)?, k)
 }

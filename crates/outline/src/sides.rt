@@ -5,7 +5,7 @@ ghost use Rattle.outline.specs.Outlining as outlining;
 
 use crate::Outline;
 use integers::sum;
-use octagon::Octagon;
+use octagon::{NormalForm, Octagon};
 
 // The length of an even side, from its bound and the bounds beside it.
 fn even_side(before: i32, own: i32, after: i32) -> u32
@@ -15,7 +15,7 @@ fn even_side(before: i32, own: i32, after: i32) -> u32
     (sum(before, after) - sum(own, own)) as u32
 }
 
-// The length of an odd side.
+// The length of an odd side. Even and odd sides have a rule each in document 01, and so a function each.
 fn odd_side(before: i32, own: i32, after: i32) -> u32
     requires { outlining.SideLength (form.odd_side before own after) }
     ensures { result ≡ nat_abs (form.odd_side before own after) }
@@ -23,19 +23,20 @@ fn odd_side(before: i32, own: i32, after: i32) -> u32
     (sum(before, after) - (own as i64)) as u32
 }
 
-// The outline of normalised bounds.
-pub fn outline_of(a: Octagon) -> Outline
-    requires { outlining.Sized a }
-    ensures { result ≡ outlining.outline_of a }
+// The outline of an octagon.
+pub fn outline_of(a: NormalForm) -> Outline
+    ensures { result ≡ outlining.outline_of a.bounds }
 {
-    let c0 = a.c0;
-    let c1 = a.c1;
-    let c2 = a.c2;
-    let c3 = a.c3;
-    let c4 = a.c4;
-    let c5 = a.c5;
-    let c6 = a.c6;
-    let c7 = a.c7;
+    let Octagon {
+        c0,
+        c1,
+        c2,
+        c3,
+        c4,
+        c5,
+        c6,
+        c7,
+    } = a.bounds;
     Outline {
         i: c0 - c7,
         j: -c0,

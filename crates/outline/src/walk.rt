@@ -8,43 +8,27 @@ use crate::Outline;
 use crate::tables::STEPS;
 
 // Document 01's cell.
-#[derive(Clone, Copy)]
+#[derive(Clone, Copy, Debug, PartialEq, Eq, Hash)]
 pub struct Cell {
     pub x: i64,
     pub y: i64,
 }
 
-// How far a step along side k goes east.
-fn east(k: usize) -> i32
-    requires { k < 8 }
-    ensures { result ≡ walk.east k }
-{
-    STEPS[k][0]
+// A step along a side: how far it goes east, and how far north.
+#[derive(Clone, Copy, Debug, PartialEq, Eq, Hash)]
+struct Step {
+    east: i32,
+    north: i32,
 }
 
-// How far it goes north.
-fn north(k: usize) -> i32
+// The step along side k.
+fn step_along(k: usize) -> Step
     requires { k < 8 }
-    ensures { result ≡ walk.north k }
+    ensures east { result.east ≡ walk.east k }
+    ensures north { result.north ≡ walk.north k }
 {
-    STEPS[k][1]
-}
-
-// The length of side k.
-fn side(o: Outline, k: usize) -> u32
-    requires { k < 8 }
-    ensures { result ≡ walk.side o k }
-{
-    let n0 = o.n0;
-    let n1 = o.n1;
-    let n2 = o.n2;
-    let n3 = o.n3;
-    let n4 = o.n4;
-    let n5 = o.n5;
-    let n6 = o.n6;
-    let n7 = o.n7;
-    let sides = [n0, n1, n2, n3, n4, n5, n6, n7];
-    sides[k]
+    let [east, north] = STEPS[k];
+    Step { east, north }
 }
 
 // A coordinate after n steps of d.
@@ -62,12 +46,11 @@ pub fn vertex(o: Outline, k: usize) -> Cell
 {
     let mut x = o.i as i64;
     let mut y = o.j as i64;
-    let mut m = 0;
-    while m < k {
-        let n = side(o, m);
-        x = moved(x, east(m), n);
-        y = moved(y, north(m), n);
-        m += 1;
+    for m in 0..k {
+        let d = step_along(m);
+        let n = o.sides()[m];
+        x = moved(x, d.east, n);
+        y = moved(y, d.north, n);
     }
     Cell { x, y }
 }

@@ -2,6 +2,7 @@
 pub mod Decimals
 pub mod Signs
 pub mod Writing
+pub mod Pages
 pub mod Numbers
 pub mod Plots
 pub mod Lengths

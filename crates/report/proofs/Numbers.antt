@@ -1,19 +1,16 @@
 -- Numbers in a line, one after the other, and the parts of a row. Assumes nothing.
-use mathlib.Core.Path.{◌≡◌, ap}
+use mathlib.Core.Path.{◌≡◌}
 use mathlib.Core.List.{List, [], ◌∷◌, ◌++◌, map, append_assoc}
-use Prim.Native.Nat.{ℕ, suc, ◌+◌, ◌≤◌, ◌<◌}
-use native.Mathlib.Omega.{arith}
+use Prim.Native.Nat.{ℕ, ◌+◌, ◌≤◌, ◌<◌}
 use native.Mathlib.Numerals.{add-one}
-use lib.ListN.{length, get_or, drop, set, drop_of_length-le, length-append}
+use lib.ListN.{length, get_or, drop, drop_of_length-le}
 use lib.Seq.{drop-cons}
 use Rattle.sheet.specs.declared.Record.{Record}
 use Rattle.report.specs.Decimal.{decimal}
-use Rattle.report.specs.Lines.{space, newline, spaced, row_start, row_line, Put}
-use Rattle.report.proofs.Writing.{put_byte, put_then, ToPut, to_put_more}
-
--- a byte and then a word
-pub put_cons : {s t : List ℕ} {at next : ℕ} (b : ℕ) (w : List ℕ) → at < length s → Put (set s at b) (at + 1) w t next → Put s at (b ∷ w) t next
-put_cons {s} {t} {at} b w h p = put_then (put_byte s at b h) p
+use Rattle.report.specs.Lines.{space, newline, spaced, row_start, row_line}
+use Rattle.report.specs.declared.page.Page.{Page}
+use Rattle.report.specs.Pages.{HasRoom, Written}
+use Rattle.report.proofs.Pages.{ToWrite, to_write_more, to_write_room}
 
 -- the words of the numbers from the k-th on, and the newline
 abbrev pub words : List ℕ → ℕ → List ℕ
@@ -26,20 +23,16 @@ words_end : (vs : List ℕ) (k : ℕ) → length vs ≤ k → words vs k ≡ new
 words_end vs k h = rw (drop_of_length-le vs h)
 
 -- one number more
-pub number_room : {s w t : List ℕ} {at m : ℕ} (vs : List ℕ) (k : ℕ) → k < length vs → ToPut s at w t m (words vs k) → m + suc (length (decimal (get_or vs k 0))) ≤ length t
-number_room vs k h l =
-    omega (arith, l.fits, ap length (words_more vs k h), length-append (space ∷ decimal (get_or vs k 0)) (words vs (k + 1)))
+pub number_room : {p q : Page} {w : List ℕ} (vs : List ℕ) (k : ℕ) → k < length vs → ToWrite p w q (words vs k) → HasRoom q (space ∷ decimal (get_or vs k 0))
+number_room vs k h l = to_write_room (space ∷ decimal (get_or vs k 0)) (words vs (k + 1)) (rw (words_more vs k h) at l)
 
-pub number_more : {s w t u : List ℕ} {at m next : ℕ} (vs : List ℕ) (k : ℕ) → k < length vs → ToPut s at w t m (words vs k)
-    → Put t m (space ∷ decimal (get_or vs k 0)) u next → ToPut s at w u next (words vs (k + 1))
-number_more vs k h l p = to_put_more (space ∷ decimal (get_or vs k 0)) (words vs (k + 1)) (rw (words_more vs k h) at l) p
+pub number_more : {p q r : Page} {w : List ℕ} (vs : List ℕ) (k : ℕ) → k < length vs → ToWrite p w q (words vs k)
+    → Written q (space ∷ decimal (get_or vs k 0)) r → ToWrite p w r (words vs (k + 1))
+number_more vs k h l a = to_write_more (space ∷ decimal (get_or vs k 0)) (words vs (k + 1)) (rw (words_more vs k h) at l) a
 
 -- the newline
-pub newline_room : {s w t : List ℕ} {at m : ℕ} (vs : List ℕ) (k : ℕ) → length vs ≤ k → ToPut s at w t m (words vs k) → m < length t
-newline_room vs k h l = omega (arith, l.fits, ap length (words_end vs k h))
-
-pub numbers_end : {s w t : List ℕ} {at m : ℕ} (vs : List ℕ) (k : ℕ) → length vs ≤ k → ToPut s at w t m (words vs k) → Put s at w (set t m newline) (m + 1)
-numbers_end {t = t} {m = m} vs k h l = l.rest (rw (words_end vs k h) (put_byte t m newline (newline_room vs k h l)))
+pub numbers_end : {p q : Page} {w : List ℕ} (vs : List ℕ) (k : ℕ) → length vs ≤ k → ToWrite p w q (words vs k) → ToWrite p w q (newline ∷ [])
+numbers_end vs k h l = rw (words_end vs k h) at l
 
 -- ---- a row
 

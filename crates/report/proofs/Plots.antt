@@ -6,7 +6,7 @@ use native.Mathlib.Omega.{arith}
 use native.Mathlib.Numerals.{add-one}
 use lib.ListN.{length, get_or, drop, drop_of_length-le}
 use lib.Seq.{drop-cons}
-use Rattle.octagon.specs.declared.Octagon.{Octagon}
+use Rattle.octagon.specs.Octagon.{Octagon}
 use Rattle.octagon.specs.Outcome.{Outcome, accepted, refused, then}
 use Rattle.cell_count.specs.Area.{cell_count}
 use Rattle.cell_count.proofs.Counted.{count_accepted, area_fits}
@@ -17,9 +17,11 @@ use Rattle.sheet.specs.Layout.{record_from}
 use Rattle.sheet.specs.Order.{nth}
 use Rattle.sheet.specs.Checking.{plots, checked, fetched}
 use Rattle.sheet.proofs.Checks.{checked_plotted}
-use Rattle.report.specs.Lines.{row_line, Put}
+use Rattle.report.specs.declared.page.Page.{Page}
+use Rattle.report.specs.Lines.{row_line}
+use Rattle.report.specs.Pages.{HasRoom, Written}
 use Rattle.report.specs.Listing.{or_nought, cell_number, row_of, rows_of, total_cells}
-use Rattle.report.proofs.Writing.{ToPut, to_put_more, to_put_room}
+use Rattle.report.proofs.Pages.{ToWrite, to_write_more, to_write_room}
 
 -- ---- the records
 
@@ -72,11 +74,11 @@ module _ (rs : List Record) (k : ℕ) (h : k < length rs) (r : Record) (e : r �
   unfolding row_of
   rest_more = rw (drop-cons rs k blank h, add-one k, f, e)
 
-  pub row_room : {s w t : List ℕ} {at m : ℕ} → ToPut s at w t m (rest rs k) → m + length (row_line r n) ≤ length t
-  row_room l = to_put_room (row_line r n) (rest rs (k + 1)) (rw rest_more at l)
+  pub row_room : {p q : Page} {w : List ℕ} → ToWrite p w q (rest rs k) → HasRoom q (row_line r n)
+  row_room l = to_write_room (row_line r n) (rest rs (k + 1)) (rw rest_more at l)
 
-  pub row_more : {s w t u : List ℕ} {at m next : ℕ} → ToPut s at w t m (rest rs k) → Put t m (row_line r n) u next → ToPut s at w u next (rest rs (k + 1))
-  row_more l p = to_put_more (row_line r n) (rest rs (k + 1)) (rw rest_more at l) p
+  pub row_more : {p q t : Page} {w : List ℕ} → ToWrite p w q (rest rs k) → Written q (row_line r n) t → ToWrite p w t (rest rs (k + 1))
+  row_more l a = to_write_more (row_line r n) (rest rs (k + 1)) (rw rest_more at l) a
 
   pub total_cells_more : total_cells (drop k rs) ≡ n + total_cells (drop (k + 1) rs)
   total_cells_more = rw (drop-cons rs k blank h, add-one k, f, e)

@@ -1,7 +1,7 @@
 -- A listing read back: the lines of a text, the words of a line, and the numbers that words stand for, against what document 01 says
 -- of them. proofs/ReadBacks.antt shows `ReadBack` and `RefusedBack` of every listing. Assumes nothing.
 use Rattle.std.specs.Prelude.{◌≡◌, true, false, List, [], ◌∷◌, ℕ, ◌+◌, ◌≤◌, ◌<◌, eqb, ℤ, pos, length, get_or}
-use Rattle.octagon.specs.declared.Octagon.{Octagon}
+use Rattle.octagon.specs.Octagon.{Octagon}
 use Rattle.octagon.specs.Outcome.{accepted}
 use Rattle.octagon.specs.Cells.{◌≐◌, In, limit}
 use Rattle.cell_count.specs.Count.{sum, count, inside}

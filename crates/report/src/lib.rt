@@ -1,7 +1,8 @@
 // The listing of a sheet as text.
 //
-// specs/Decimal.antt has numbers as text, specs/Lines.antt the lines, specs/Listing.antt the whole listing, specs/ReadBack.antt what its
-// text says when it is read back; proofs/Decimals.antt and proofs/ReadBacks.antt show that it says so.
+// specs/Decimal.antt has numbers as text, specs/Lines.antt the lines, specs/Pages.antt what is written on a page, specs/Listing.antt the
+// whole listing, specs/ReadBack.antt what its text says when it is read back; proofs/Decimals.antt and proofs/ReadBacks.antt show that it
+// says so.
 #![tactic(auto)]
 
 ghost use Rattle.std.specs.Prelude.{◌≡◌, length};
@@ -9,9 +10,11 @@ ghost use Rattle.records.specs.Parts.{splice};
 ghost use Rattle.report.specs.Lines.{Prefix};
 ghost use Rattle.report.specs.Listing.{listing};
 
-use sheet::Checked;
+use page::Page;
 
+mod digits;
 mod lines;
+mod page;
 mod rows;
 mod words;
 
@@ -25,8 +28,10 @@ pub fn list(sheet: &[u8], len: usize, text: &mut [u8; TEXT]) -> usize
     ensures prefix { Prefix result text.new }
     ensures value { (result ≡ length (listing sheet.now len)) × (text.new ≡ splice text.old 0 (listing sheet.now len)) }
 {
+    let mut page = Page::new(text);
     match sheet::check(sheet, len) {
-        Checked::Refused(e) => lines::put_refused(text, 0, e),
-        Checked::Count(c) => rows::put_all(sheet, len, c, text),
+        Ok(c) => rows::put_all(&mut page, sheet, len, c),
+        Err(e) => page.put_refused(e.number()),
     }
+    page.len()
 }

@@ -1,65 +1,49 @@
 // The rows of a listing, with the sum of their cells.
-ghost use Rattle.std.specs.Prelude.{◌≡◌, ◌+◌, ◌≤◌, length};
+ghost use Rattle.std.specs.Prelude.{◌≡◌};
 ghost use Rattle.octagon.specs.Outcome.{accepted};
 ghost use Rattle.sheet.specs.Checking.{checked, plots};
-ghost use Rattle.report.specs.Lines.{Put};
 ghost use Rattle.report.specs.Listing.{cell_number, rows_of, total_cells, full};
+ghost use Rattle.report.specs.Pages.{HasRoom, Written};
 
-use crate::lines::{put_heading, put_last, put_row};
-use cell_count::Count;
-use octagon::Answer;
+use crate::page::Page;
 use outline::Outline;
-use sheet::Fetched;
-
-// The index past rows that were put, and how many cells the plots have together.
-#[derive(Clone, Copy)]
-pub struct Rows {
-    pub next: usize,
-    pub cells: u64,
-}
 
 // The number of cells inside an outline, and 0 for one that is refused.
+#[tactic(auto, unfolding(crate::specs::Listing::cell_number))]
 fn cells(o: Outline) -> u32
     ensures { result ≡ cell_number o }
 {
-    let Answer::Octagon(a) = outline::to_octagon(o) else {
-        return 0;
-    };
-    let Count::Cells(n) = cell_count::count_cells(a) else {
-        return 0;
-    };
-    n
+    outline::to_octagon(o)
+        .and_then(cell_count::count_cells)
+        .unwrap_or(0)
 }
 
-// The rows of the c plots of a checked sheet.
-fn put_rows(sheet: &[u8], len: usize, c: u32, text: &mut [u8], at: usize) -> Rows
+// Puts the rows of the c plots of a checked sheet, and answers how many cells the plots have together.
+fn put_rows(page: &mut Page, sheet: &[u8], len: usize, c: u32) -> u64
     requires len_value { checked sheet.now len ≡ accepted c }
-    requires len_in_bounds { at + length (rows_of (plots sheet.now len)) ≤ length text.old }
-    ensures put { Put text.old at (rows_of (plots sheet.now len)) text.new result.next }
-    ensures cells_value { result.cells ≡ total_cells (plots sheet.now len) }
+    requires len_in_bounds { HasRoom page.old (rows_of (plots sheet.now len)) }
+    ensures written { Written page.old (rows_of (plots sheet.now len)) page.new }
+    ensures cells_value { result ≡ total_cells (plots sheet.now len) }
 {
-    let mut next = at;
     let mut sum: u64 = 0;
-    let mut k = 0;
-    while k < c {
-        let Fetched::Record(r) = sheet::read(sheet, len, k) else {
-            return Rows { next, cells: sum };
+    for k in 0..c {
+        let Ok(r) = sheet::read(sheet, len, k) else {
+            return sum;
         };
         let n = cells(r.outline);
-        next = put_row(text, next, r, n);
+        page.put_row(r, n);
         sum += n as u64;
-        k += 1;
     }
-    Rows { next, cells: sum }
+    sum
 }
 
 // The whole listing of a checked sheet.
-pub fn put_all(sheet: &[u8], len: usize, c: u32, text: &mut [u8]) -> usize
+pub fn put_all(page: &mut Page, sheet: &[u8], len: usize, c: u32)
     requires len_value { checked sheet.now len ≡ accepted c }
-    requires len_in_bounds { length (full (plots sheet.now len)) ≤ length text.old }
-    ensures { Put text.old 0 (full (plots sheet.now len)) text.new result }
+    requires len_in_bounds { HasRoom page.old (full (plots sheet.now len)) }
+    ensures { Written page.old (full (plots sheet.now len)) page.new }
 {
-    let first = put_heading(text, 0);
-    let rows = put_rows(sheet, len, c, text, first);
-    put_last(text, rows.next, c, rows.cells)
+    page.put_heading();
+    let cells = put_rows(page, sheet, len, c);
+    page.put_last(c, cells);
 }

@@ -1,99 +1,58 @@
-// Words of text put into a lent buffer from an index on. Each call answers the index past its word.
-ghost use Rattle.std.specs.Prelude.{◌∷◌, [], map, ◌+◌, ◌≤◌, ◌<◌, length};
-ghost use Rattle.report.specs.Decimal.{digit, decimal, sign, signed_decimal};
-ghost use Rattle.report.specs.Lines.{Put, space, spaced};
+// Numbers put on a page after a space, and the numbers of a line.
+ghost use Rattle.std.specs.Prelude.{◌∷◌, map};
+ghost use Rattle.report.specs.Decimal.{decimal, sign, signed_decimal};
+ghost use Rattle.report.specs.Lines.{space, spaced};
+ghost use Rattle.report.specs.Pages.{HasRoom, Written};
 
-use integers::magnitude;
+use crate::page::Page;
 
-const MINUS: u8 = 45;
-
-const SPACE: u8 = 32;
-
-const NEWLINE: u8 = 10;
-
-// Any word.
-pub fn put_word(text: &mut [u8], at: usize, word: &[u8]) -> usize
-    requires { at + length word.now ≤ length text.old }
-    ensures { Put text.old at word.now text.new result }
-{
-    let mut i = 0;
-    while i < word.len() {
-        text[at + i] = word[i];
-        i += 1;
+impl Page<'_> {
+    // A number's minus sign, where it has one.
+    #[tactic(auto, using(crate::proofs::Signs::no_sign, crate::proofs::Pages::written_nothing))]
+    fn put_sign(&mut self, z: i32)
+        requires { HasRoom self.old (sign z) }
+        ensures { Written self.old (sign z) self.new }
+    {
+        if z < 0 {
+            self.put_byte(b'-');
+        }
     }
-    at + i
-}
 
-fn put_digit(text: &mut [u8], at: usize, d: u64) -> usize
-    requires { (at < length text.old) × (d < 10) }
-    ensures { Put text.old at (digit d ∷ []) text.new result }
-{
-    text[at] = 48 + (d as u8);
-    at + 1
-}
-
-// A number in fewest digits.
-pub fn put_decimal(text: &mut [u8], at: usize, n: u64) -> usize
-    requires { at + length (decimal n) ≤ length text.old }
-    ensures { Put text.old at (decimal n) text.new result }
-{
-    if n < 10 {
-        return put_digit(text, at, n);
+    // A signed number.
+    fn put_signed_decimal(&mut self, z: i32)
+        requires { HasRoom self.old (signed_decimal z) }
+        ensures { Written self.old (signed_decimal z) self.new }
+    {
+        self.put_sign(z);
+        self.put_decimal(z.unsigned_abs() as u64);
     }
-    let last = put_decimal(text, at, n / 10);
-    put_digit(text, last, n % 10)
-}
 
-// A number's minus sign, where it has one.
-fn put_sign(text: &mut [u8], at: usize, z: i32) -> usize
-    requires { at + length (sign z) ≤ length text.old }
-    ensures { Put text.old at (sign z) text.new result }
-{
-    if z < 0 {
-        text[at] = MINUS;
-        return at + 1;
+    // A space and a signed number.
+    pub fn put_integer(&mut self, z: i32)
+        requires { HasRoom self.old (space ∷ signed_decimal z) }
+        ensures { Written self.old (space ∷ signed_decimal z) self.new }
+    {
+        self.put_byte(b' ');
+        self.put_signed_decimal(z);
     }
-    at
-}
 
-// A signed number.
-fn put_signed_decimal(text: &mut [u8], at: usize, z: i32) -> usize
-    requires { at + length (signed_decimal z) ≤ length text.old }
-    ensures { Put text.old at (signed_decimal z) text.new result }
-{
-    let next = put_sign(text, at, z);
-    put_decimal(text, next, magnitude(z))
-}
-
-// A space and a signed number.
-pub fn put_integer(text: &mut [u8], at: usize, z: i32) -> usize
-    requires { at + length (space ∷ signed_decimal z) ≤ length text.old }
-    ensures { Put text.old at (space ∷ signed_decimal z) text.new result }
-{
-    text[at] = SPACE;
-    put_signed_decimal(text, at + 1, z)
-}
-
-// A space and a number.
-pub fn put_number(text: &mut [u8], at: usize, n: u64) -> usize
-    requires { at + length (space ∷ decimal n) ≤ length text.old }
-    ensures { Put text.old at (space ∷ decimal n) text.new result }
-{
-    text[at] = SPACE;
-    put_decimal(text, at + 1, n)
-}
-
-// The rest of a line: numbers, each after a space, and the newline.
-pub fn put_numbers(text: &mut [u8], at: usize, values: &[u32]) -> usize
-    requires { at + length (spaced (map decimal values.now)) ≤ length text.old }
-    ensures { Put text.old at (spaced (map decimal values.now)) text.new result }
-{
-    let mut next = at;
-    let mut k = 0;
-    while k < values.len() {
-        next = put_number(text, next, values[k] as u64);
-        k += 1;
+    // A space and a number.
+    pub fn put_number(&mut self, n: u64)
+        requires { HasRoom self.old (space ∷ decimal n) }
+        ensures { Written self.old (space ∷ decimal n) self.new }
+    {
+        self.put_byte(b' ');
+        self.put_decimal(n);
     }
-    text[next] = NEWLINE;
-    next + 1
+
+    // The rest of a line: numbers, each after a space, and the newline.
+    pub fn put_numbers(&mut self, values: &[u32])
+        requires { HasRoom self.old (spaced (map decimal values.now)) }
+        ensures { Written self.old (spaced (map decimal values.now)) self.new }
+    {
+        for value in values {
+            self.put_number(*value as u64);
+        }
+        self.put_byte(b'\n');
+    }
 }

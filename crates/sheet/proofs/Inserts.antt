@@ -9,21 +9,26 @@ use lib.Seq.{length-take-le}
 use lib.Dec.{ltb, eqb}
 use borrow.Author.Tests.{ltb-false, eqb-false}
 use Rattle.integers.proofs.Tests.{or_false}
-use Rattle.octagon.specs.declared.Octagon.{Octagon}
+use Rattle.octagon.specs.Octagon.{Octagon}
 use Rattle.octagon.specs.Outcome.{accepted, refused, then, left}
-use Rattle.octagon.proofs.Outcomes.{accepted_same, past_test}
+use Rattle.octagon.proofs.Outcomes.{accepted_same, past_test, map_accepted}
 use Rattle.outline.specs.Tracing.{traced}
 use Rattle.sheet.specs.declared.Record.{Record}
 use Rattle.sheet.specs.declared.trailer.Trailer.{Trailer}
+use Rattle.sheet.specs.declared.stored.Records.{Records}
 use Rattle.sheet.specs.Answers.{bad_number, no_room}
 use Rattle.sheet.specs.Layout.{record_length}
 use Rattle.sheet.specs.Trailer.{trailer_length}
-use Rattle.sheet.specs.Order.{present}
-use Rattle.sheet.specs.Sheets.{sheet_limit, Sheet, first, sheet_of, sheet_length}
+use Rattle.sheet.specs.Order.{present, put_in_order}
+use Rattle.records.specs.Parts.{splice}
+use Rattle.sheet.specs.Sheets.{sheet_limit, Sheet, records_bytes, first, sheet_of, sheet_length}
+use Rattle.sheet.specs.Stored.{plots_of, said}
 use Rattle.sheet.specs.Checking.{parsed}
 use Rattle.sheet.specs.Writing.{written_over, written_length, with_plot, is_bad_number, has_no_room, admitted, insertion, inserted, after_insert, grown_length}
 use Rattle.sheet.proofs.Order.{length_put_in_order}
 use Rattle.sheet.proofs.Plots.{length_plots}
+use Rattle.sheet.proofs.RowsLeft.{rows_many}
+use Rattle.sheet.proofs.Overwritten.{over_records}
 use Rattle.sheet.proofs.Checks.{Good}
 
 -- a sheet of n bytes that has room
@@ -74,6 +79,28 @@ module _ (s : List ℕ) (r : Record) (z : Sheet) where
       )
 
 -- ---- how long the sheet then is
+
+pub next_length_of : (x : Records) (r : Record) → sheet_length record_length (with_plot r (said x)) ≡ x.rows.at + record_length * (x.rows.count + 1) + trailer_length
+next_length_of x r =
+    let a = length-take-le x.rows.at x.bytes.now (omega (arith, x.within)) in
+    let b : length (with_plot r (said x)).plots ≡ x.rows.count + 1 = length_put_in_order r (plots_of x) ∙ omega (arith, rows_many x.bytes.now x.rows) in
+    rw (a, b)
+
+-- where the records x with r are admitted, they have room, and are written as the sheet that an insert makes
+module _ (x : Records) (r : Record) (n : ℕ) (e : accepted n ≡ then (admitted x.bytes.now r (said x)) (λ y. accepted (written_length y))) where
+  taken : Admitted x.bytes.now r (said x) × (admitted x.bytes.now r (said x) ≡ accepted (with_plot r (said x)))
+  taken =
+      let m = map_accepted (admitted x.bytes.now r (said x)) written_length n (sym e) in
+      let p = admitted_passed x.bytes.now r (said x) m.0 m.1 in
+      (p.0, m.1 ∙ ap accepted p.1)
+
+  pub taken_room :
+      (x.rows.at + record_length * (x.rows.count + 1) + trailer_length ≤ length x.bytes.now) × (x.rows.at + record_length * (x.rows.count + 1) + trailer_length ≤ sheet_limit)
+  taken_room = let f = taken.0 in let l = next_length_of x r in (rw (← l) f.within, rw (← l) f.short)
+
+  pub taken_written : (len : ℕ) → parsed x.bytes.now len ≡ accepted (said x)
+      → splice x.bytes.now x.rows.at (records_bytes record_length (put_in_order r (plots_of x))) ≡ left x.bytes.now (then (parsed x.bytes.now len) (admitted x.bytes.now r)) (written_over x.bytes.now)
+  taken_written len p = over_records x.bytes.now x.rows.at (put_in_order r (plots_of x)) (omega (arith, x.within)) ∙ rw (p, taken.1)
 
 module _ (s : List ℕ) (len : ℕ) (z : Trailer) (r : Record) (g : Good s len z) where
   pub next_length_is : sheet_length record_length (with_plot r (sheet_of s len z)) ≡ first len z.distance + record_length * (z.count + 1) + trailer_length

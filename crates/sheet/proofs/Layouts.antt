@@ -1,17 +1,17 @@
 -- Records in a layout, whatever its widths: what is read at an index, what is written, and the way there and back where the fields are
 -- wide enough. Then the layouts that there are. Assumes nothing.
-use mathlib.Core.Path.{◌≡◌, refl, sym, ap, subst, ◌∙◌}
+use mathlib.Core.Path.{◌≡◌, refl, sym, ap, ◌∙◌}
 use mathlib.Core.Bool.{Bool, true, false, cond}
 use mathlib.Core.List.{List, [], ◌∷◌}
 use Prim.Native.Nat.{ℕ, zero, suc, ◌^◌, ◌≤◌, ◌<◌}
 use native.Mathlib.Omega.{arith}
-use lib.ListN.{length, drop, get_or, set, replicate}
+use lib.ListN.{length, drop, get_or, replicate}
 use lib.Seq.{take_all, take-take}
 use lib.Dec.{ltb, eqb}
 use borrow.Author.Tests.{ltb-true, ltb-false, eqb-true}
 use Rattle.integers.proofs.Tests.{cases, true_is_not_false}
 use Rattle.outline.proofs.Steps.{eight}
-use Rattle.records.specs.Numbers.{AreBytes, number, signed, twos, total_width, narrow, packed, unpacked}
+use Rattle.records.specs.Numbers.{AreBytes, number, total_width, narrow, packed, unpacked}
 use Rattle.records.specs.Parts.{part}
 use Rattle.records.proofs.Numbers.{drop_bytes, signed_twos, twos_below, twos_signed}
 use Rattle.records.proofs.Fields.{Fit, length_packed, unpacked_all, packed_unpacked, unpacked_take, unpacked_fit, length_unpacked, narrow_at, fit_when, fit_at}
@@ -81,13 +81,6 @@ pub number_decoded : (ws s : List ℕ) (at n : ℕ) → 0 < length ws → get_or
 unfolding decoded
 number_decoded [] s at n h l = absurd (omega arith)
 number_decoded (w ∷ ws) s at n h l = ap number (sym (take-take w n (drop at s) l))
-
--- the numbers v of a record that was read in the layout ws, as they are written in the layout us: only those of i and j may be others
-pub copied : (ws us v : List ℕ) → length v ≡ field_count
-    → set (set v 1 (twos (get_or us 1 0) (signed (get_or ws 1 0) (get_or v 1 0)))) 2 (twos (get_or us 2 0) (signed (get_or ws 2 0) (get_or v 2 0))) ≡ values us (record_from ws v)
-copied ws us v e =
-    subst (λ (v : List ℕ). set (set v 1 (twos (get_or us 1 0) (signed (get_or ws 1 0) (get_or v 1 0)))) 2 (twos (get_or us 2 0) (signed (get_or ws 2 0) (get_or v 2 0))) ≡ values us (record_from ws v))
-    (rw e at (listed_is v)) refl
 
 -- a field that was read fits its width
 pub field_below : (ws s : List ℕ) (at k : ℕ) → AreBytes s → k < length ws → get_or (unpacked ws (drop at s)) k 0 < 256 ^ get_or ws k 0

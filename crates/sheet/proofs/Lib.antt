@@ -1,12 +1,15 @@
 -- Theorems on sheets.
 pub mod TwosComplement
 pub mod Layouts
+pub mod Pastes
 pub mod RecordBytes
 pub mod Order
 pub mod PutOnce
 pub mod Merging
 pub mod Outlines
 pub mod Plots
+pub mod Resizing
+pub mod InspectedRows
 pub mod RecordFields
 pub mod TrailerBytes
 pub mod TrailerFields

@@ -8,7 +8,7 @@ use lib.IntN.{ℤ, pos, negsuc}
 use lib.Signed.{mag}
 use Rattle.integers.proofs.Parts.{up, dn}
 use Rattle.integers.proofs.Linear.{#, neg, lit, ◌≼◌}
-use Rattle.octagon.specs.declared.Octagon.{Octagon}
+use Rattle.octagon.specs.Octagon.{Octagon}
 use Rattle.octagon.specs.Outcome.{accepted}
 use Rattle.octagon.specs.Cells.{limit}
 use Rattle.octagon.proofs.Within.{Near}

@@ -3,23 +3,21 @@
 use mathlib.Core.Path.{◌≡◌, refl, sym, ap, ◌∙◌}
 use mathlib.Core.Bool.{true, false}
 use mathlib.Core.List.{List, [], ◌∷◌, ◌++◌, map}
-use Prim.Native.Nat.{ℕ, zero, suc, ◌+◌, ◌-◌, ◌*◌, ◌/◌, ◌^◌, ◌≤◌, ◌<◌}
+use Prim.Native.Nat.{ℕ, zero, suc, ◌+◌, ◌-◌, ◌*◌, ◌^◌, ◌≤◌, ◌<◌}
 use native.Mathlib.Omega.{arith}
 use native.Mathlib.Nat.{mul-zero, mul-suc, add-zero, sub-zero, suc-sub-suc, pow-le-pow_right}
 use lib.ListN.{length, take, drop, get_or, length-map}
 use lib.Seq.{take-take, drop-drop}
-use lib.Signed.{mag}
 use borrow.Author.Tests.{lt-ltb, le-ltb, eq-eqb, ne_eqb}
 use Rattle.octagon.specs.Outcome.{accepted}
-use Rattle.records.specs.Numbers.{AreBytes, signed, total_width, narrow, packed, unpacked}
+use Rattle.records.specs.Numbers.{AreBytes, total_width, narrow, unpacked}
 use Rattle.records.specs.Parts.{part}
 use Rattle.records.specs.Rows.{records}
 use Rattle.records.proofs.Parts.{drop_take}
 use Rattle.records.proofs.Rows.{length_records, records_more}
-use Rattle.records.proofs.Fields.{length_unpacked}
 use Rattle.records.proofs.Steps.{total_width_more}
 use Rattle.sheet.specs.declared.Record.{Record}
-use Rattle.sheet.specs.Layout.{field_count, number_width, fee_width, record_length, layout_of, values, record_from, encoded, decoded, Fits, Sized, Resizes}
+use Rattle.sheet.specs.Layout.{field_count, number_width, fee_width, record_length, layout_of, record_from, decoded, Fits, Sized}
 use Rattle.sheet.specs.Order.{nth, All, none, more, Ascending, next, present, rank, put_in_order}
 use Rattle.sheet.specs.Sheets.{plots_from}
 use Rattle.sheet.specs.Cases.{HasOctagon}
@@ -43,41 +41,16 @@ module _ (L : ℕ) (s : List ℕ) (at : ℕ) (ws : List ℕ) (e : ws ≡ layout_
   fields_within h = rw e ((omega (arith, within_length L), all_narrow L), sym (every_field L))
 
   module _ (v : List ℕ) (f : v ≡ unpacked ws (drop at s)) where
-    pub signs_fit : AreBytes s → ((get_or ws 1 0 ≤ 4) × (get_or ws 2 0 ≤ 4)) × ((get_or v 1 0 < 256 ^ get_or ws 1 0) × (get_or v 2 0 < 256 ^ get_or ws 2 0))
-    signs_fit b =
-        let n = every_field L in
-        rw (f, e) ((narrow_fields L 1, narrow_fields L 2), (field_below (layout_of L) s at 1 b (omega arith), field_below (layout_of L) s at 2 b (omega arith)))
+    -- and each is within the width of its field
+    module _ (b : (k : ℕ) → k < field_count → get_or v k 0 < 256 ^ get_or ws k 0) where
+      pub signs_fit : ((get_or ws 1 0 ≤ 4) × (get_or ws 2 0 ≤ 4)) × ((get_or v 1 0 < 256 ^ get_or ws 1 0) × (get_or v 2 0 < 256 ^ get_or ws 2 0))
+      signs_fit = (rw e (narrow_fields L 1, narrow_fields L 2), (b 1 (omega arith), b 2 (omega arith)))
 
-    pub fee_small : AreBytes s → get_or v 11 0 < 256 ^ fee_width
-    fee_small b = rw (f, e) (field_small L s at 11 fee_width b (omega arith) (narrow_fee L))
+      pub fee_small : get_or v 11 0 < 256 ^ fee_width
+      fee_small = omega (arith, b 11 (omega arith), pow-le-pow_right {n = 256} (omega arith) {i = get_or ws 11 0} {j = fee_width} (rw e (narrow_fee L)))
 
     pub read_there : record_from ws v ≡ decoded (layout_of L) (part s at L)
     read_there = rw (f, e) (sym (decoded_at (layout_of L) s at L (within_length L)))
-
-    -- its numbers as they are written in the layout us of records of M bytes, which it fits
-    module _ (M : ℕ) (us : List ℕ) (g : us ≡ layout_of M) (fits : Fits (layout_of M) (decoded (layout_of L) (part s at L))) where
-      pub resizes : AreBytes s → Resizes ws us v
-      resizes b =
-          let q = signs_fit b in
-          let m : mag (signed (get_or ws 1 0) (get_or v 1 0)) < 256 ^ get_or us 1 0 / 2 = rw g (rw (← read_there) at fits.fits_i) in
-          let n : mag (signed (get_or ws 2 0) (get_or v 2 0)) < 256 ^ get_or us 2 0 / 2 = rw g (rw (← read_there) at fits.fits_j) in
-          record {
-            all_fields = ap length f ∙ length_unpacked ws (drop at s) ∙ ap length e ∙ every_field L;
-            i_resizes = (q.0.0, q.1.0, rw g (narrow_fields M 1), m);
-            j_resizes = (q.0.1, q.1.1, rw g (narrow_fields M 2), n);
-          }
-
-      module _ (w : List ℕ) (h : w ≡ values us (record_from ws v)) where
-        pub resized_there : packed us w ≡ encoded (layout_of M) (decoded (layout_of L) (part s at L))
-        unfolding encoded
-        resized_there =
-            ap (packed us) h
-            ∙ ap (λ (r : Record). packed us (values us r)) read_there
-            ∙ ap (λ (ts : List ℕ). packed ts (values ts (decoded (layout_of L) (part s at L)))) g
-
-        -- they are as many as there are fields, and lie in a buffer u of which M bytes are free
-        pub resized_within : (u : List ℕ) (to : ℕ) → to + M ≤ length u → (to + total_width us ≤ length u) × (length w ≡ length us)
-        resized_within u to m = (rw g (omega (arith, within_length M)), ap length h ∙ sym (ap length g ∙ every_field M))
 
 -- ---- how many, and one by one
 

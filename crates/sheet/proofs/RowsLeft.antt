@@ -7,57 +7,59 @@ use Prim.Native.Nat.{ℕ, ◌+◌, ◌≤◌, ◌<◌}
 use native.Mathlib.Omega.{arith}
 use native.Mathlib.Nat.{mul-le-mul_right}
 use lib.ListN.{length, drop}
-use Rattle.records.specs.Numbers.{AreBytes}
 use Rattle.records.specs.Parts.{part}
 use Rattle.records.proofs.Rows.{mul_pred}
 use Rattle.sheet.specs.declared.Record.{Record}
-use Rattle.sheet.specs.declared.merge.Rows.{Rows}
-use Rattle.sheet.specs.Layout.{record_length, layout_of, decoded, Fits}
+use Rattle.sheet.specs.declared.rows.Rows.{Rows}
+use Rattle.sheet.specs.declared.stored.Records.{Records}
+use Rattle.sheet.specs.Layout.{layout_of, decoded}
 use Rattle.sheet.specs.Order.{Ascending, next}
 use Rattle.sheet.specs.Merging.{without_head}
 use Rattle.sheet.specs.Sheets.{sheet_limit}
 use Rattle.sheet.specs.Cases.{HasOctagon}
 use Rattle.sheet.specs.Rows.{plots_in, RowsIn, rows_left}
-use Rattle.sheet.proofs.Layouts.{shortest}
-use Rattle.sheet.proofs.Outlines.{accepted_fits}
-use Rattle.sheet.proofs.Plots.{length_plots, plots_more, plots_none, plot_sized}
+use Rattle.sheet.proofs.Layouts.{shortest, tests_length}
+use Rattle.sheet.proofs.Plots.{length_plots, plots_more, plots_none}
 use Rattle.sheet.proofs.Merging.{ascending_from}
+use Rattle.sheet.proofs.Surveys.{surveyed_passed}
+
+-- what the records that the code passes on are known for
+pub rows_in : (x : Records) → RowsIn x.bytes.now x.rows
+rows_in x = record { within = x.within; short = x.short; ascending = (surveyed_passed tt tt 0 (plots_in x.bytes.now x.rows) x.surveyed).0 }
 
 -- the first record
 abbrev pub head_of : List ℕ → Rows → Record
-head_of s x = decoded (layout_of x.each) (part s x.at x.each)
+head_of s x = decoded (layout_of x.each.bytes) (part s x.at x.each.bytes)
 
 module _ (s : List ℕ) (x : Rows) where
   pub rows_more : 0 < x.count → plots_in s x ≡ head_of s x ∷ plots_in s (rows_left true x)
-  rows_more h = plots_more x.each s x.at x.count h
+  rows_more h = plots_more x.each.bytes s x.at x.count h
 
   pub rows_none : x.count ≤ 0 → plots_in s x ≡ []
-  rows_none h = plots_none x.each s x.at x.count h
+  rows_none h = plots_none x.each.bytes s x.at x.count h
 
   pub rows_many : length (plots_in s x) ≡ x.count
-  rows_many = length_plots x.each s x.at x.count
+  rows_many = length_plots x.each.bytes s x.at x.count
 
   module _ (k : RowsIn s x) where
     -- the first lies in the buffer
-    pub head_within : 0 < x.count → (x.at + x.each ≤ length s) × (x.at + x.each ≤ sheet_limit)
-    head_within h = (omega (arith, mul_pred x.each x.count h, k.within), omega (arith, mul_pred x.each x.count h, k.short))
+    pub head_within : 0 < x.count → (x.at + x.each.bytes ≤ length s) × (x.at + x.each.bytes ≤ sheet_limit)
+    head_within h = (omega (arith, mul_pred x.each.bytes x.count h, k.within), omega (arith, mul_pred x.each.bytes x.count h, k.short))
 
     pub few_rows : x.count ≤ sheet_limit
-    few_rows = omega (arith, k.short, mul-le-mul_right x.count (shortest x.each k.known))
+    few_rows = omega (arith, k.short, mul-le-mul_right x.count (shortest x.each.bytes (tests_length x.each.bytes x.each.known)))
 
-    -- it fits the layout that is written
-    pub head_fits : AreBytes s → 0 < x.count → Fits (layout_of record_length) (head_of s x)
-    head_fits b h = go (rw (rows_more h) at k.ascending)
+    pub head_octagon : 0 < x.count → HasOctagon (head_of s x)
+    head_octagon h = go (rw (rows_more h) at k.ascending)
       where
-        go : {rs : List Record} → Ascending HasOctagon 0 (head_of s x ∷ rs) → Fits (layout_of record_length) (head_of s x)
-        go (next l q g) = accepted_fits (head_of s x) q.0 (plot_sized x.each s x.at b) q.1
+        go : {rs : List Record} → Ascending HasOctagon 0 (head_of s x ∷ rs) → HasOctagon (head_of s x)
+        go (next l q g) = q
 
     pub left_in : (taken : Bool) → (taken ≡ true → 0 < x.count) → RowsIn s (rows_left taken x)
     left_in false f = k
     left_in true f =
-        let m = mul_pred x.each x.count (f refl) in
+        let m = mul_pred x.each.bytes x.count (f refl) in
         record {
-          known = k.known;
           within = omega (arith, k.within);
           short = omega (arith, k.short);
           ascending = others (rw (rows_more (f refl)) at k.ascending);

@@ -1,12 +1,12 @@
 -- The records of a sheet in order: one record, one more, and what an accepted survey says of them all. Assumes nothing.
-use mathlib.Core.Path.{◌≡◌, refl, sym}
+use mathlib.Core.Path.{◌≡◌, refl, sym, ◌∙◌}
 use mathlib.Core.List.{List, [], ◌∷◌}
 use Prim.Native.Nat.{ℕ, ◌+◌, ◌-◌, ◌≤◌, ◌<◌}
 use lib.Dec.{ltb}
 use borrow.Author.Tests.{lt-ltb, le-ltb, ltb-true}
 use Rattle.integers.proofs.Tests.{cases}
-use Rattle.octagon.specs.declared.Octagon.{Octagon}
-use Rattle.octagon.specs.Outcome.{accepted, refused}
+use Rattle.octagon.specs.Octagon.{Octagon}
+use Rattle.octagon.specs.Outcome.{Outcome, accepted, refused, then}
 use Rattle.octagon.proofs.Outcomes.{accepted_same, accepted_not_refused, then_accepted, map_accepted}
 use Rattle.outline.specs.declared.Outline.{Outline}
 use Rattle.outline.specs.Tracing.{traced}
@@ -16,7 +16,7 @@ use Rattle.sheet.specs.Answers.{bad_number}
 use Rattle.sheet.specs.Layout.{layout_of, decoded}
 use Rattle.sheet.specs.Order.{Ascending, last, next}
 use Rattle.sheet.specs.Sheets.{plots_from}
-use Rattle.sheet.specs.Checking.{judged, surveyed}
+use Rattle.sheet.specs.Checking.{judged, surveyed, all_judged}
 use Rattle.sheet.specs.Cases.{HasOctagon}
 use Rattle.sheet.proofs.Plots.{plots_more, plots_none}
 
@@ -78,3 +78,19 @@ surveyed_passed a b before (r ∷ rs) e =
     let j = judged_passed before t.between r t.first in
     let m = surveyed_passed a b t.between rs t.second in
     (next {r = r} j.0 j.1 (rw j.2 at m.0), m.1)
+
+-- what is answered after them leaves the refusals as they are
+then_step : {A B C : Type 0} (o : Outcome A) (f : A → Outcome B) (g : A → Outcome C) (h : C → Outcome B) → ((v : A) → f v ≡ then (g v) h) → then o f ≡ then (then o g) h
+then_step (accepted v) f g h e = e v
+then_step (refused k) f g h e = refl
+
+survey_then : {A : Type 0} (a : A) (before : ℕ) (rs : List Record) → surveyed a before rs ≡ then (surveyed (tt {0}) before rs) (λ _. accepted a)
+unfolding surveyed
+survey_then a before [] = refl
+survey_then a before (r ∷ rs) = then_step (judged before r) (λ v. surveyed a v rs) (λ v. surveyed (tt {0}) v rs) (λ _. accepted a) (λ v. survey_then a v rs)
+
+pub all_refused : {A : Type 0} (a : A) (rs : List Record) {k : ℕ} → all_judged rs ≡ refused k → surveyed a 0 rs ≡ refused k
+all_refused a rs e = survey_then a 0 rs ∙ rw e
+
+pub all_passed : {A : Type 0} (a : A) (rs : List Record) → all_judged rs ≡ accepted tt → surveyed a 0 rs ≡ accepted a
+all_passed a rs e = survey_then a 0 rs ∙ rw e

@@ -1,7 +1,7 @@
 -- Each answer of `check`, `fetch` and `read` with what it says of the sheet, in the words of documents 01 and 02 (U2). proofs/CheckCases.antt,
 -- proofs/FetchCases.antt and proofs/ReadCases.antt show that each is given exactly where its case holds. Assumes nothing.
 use Rattle.std.specs.Prelude.{◌≡◌, List, ◌∷◌, ℕ, ◌+◌, ◌-◌, ◌*◌, ◌≤◌, ◌<◌, length}
-use Rattle.octagon.specs.declared.Octagon.{Octagon}
+use Rattle.octagon.specs.Octagon.{Octagon}
 use Rattle.octagon.specs.Outcome.{Outcome, accepted, refused, off_map}
 use Rattle.octagon.specs.Cells.{LeavesMap}
 use Rattle.outline.specs.Closing.{Closes}

@@ -1,6 +1,6 @@
 -- What `check`, `fetch` and `read` answer: definitions that compute. proofs/CheckCases.antt, proofs/FetchCases.antt and
 -- proofs/ReadCases.antt say exactly when each answer is given. Assumes nothing.
-use Rattle.std.specs.Prelude.{Bool, cond, not, ◌||◌, List, [], ◌∷◌, ℕ, ◌-◌, ◌*◌, length, ltb, eqb}
+use Rattle.std.specs.Prelude.{◌≡◌, Bool, cond, not, ◌||◌, List, [], ◌∷◌, ℕ, ◌-◌, ◌*◌, length, ltb, eqb}
 use Rattle.octagon.specs.Outcome.{Outcome, accepted, refused, then, left}
 use Rattle.outline.specs.Tracing.{traced}
 use Rattle.sheet.specs.declared.Record.{Record}
@@ -44,6 +44,13 @@ judged before r = cond (ltb before r.number) (then (traced r.outline) (λ _. acc
 unfoldable pub surveyed : {A : Type 0} → A → ℕ → List Record → Outcome A
 surveyed a before [] = accepted a
 surveyed a before (r ∷ rs) = then (judged before r) (λ v. surveyed a v rs)
+
+-- all of them from the first on, with no answer, and that none is refused
+abbrev pub all_judged : List Record → Outcome (Unit {0})
+all_judged rs = surveyed tt 0 rs
+
+abbrev pub Surveyed : List Record → Type 0
+Surveyed rs = all_judged rs ≡ accepted tt
 
 -- ---- the sheet
 

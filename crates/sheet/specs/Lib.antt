@@ -10,6 +10,8 @@ pub mod Sheets
 pub mod Checking
 pub mod Cases
 pub mod Rows
+pub mod Stored
+pub mod StoredRecords
 pub mod Writing
 pub mod WritingCases
 pub mod Joining

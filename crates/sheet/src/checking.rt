@@ -1,70 +1,49 @@
 // The check of a sheet: its frame, and then its records in order.
-ghost use Rattle.std.specs.Prelude.{◌≡◌, ◌+◌, ◌*◌, ◌≤◌, length};
-ghost use Rattle.records.specs.Parts.{part};
-ghost use Rattle.sheet.specs.Answers.{trailer_outcome, number_outcome};
-ghost use Rattle.sheet.specs.Layout.{IsRecordLength, layout_of, decoded};
-ghost use Rattle.sheet.specs.Sheets.{plots_from};
-ghost use Rattle.sheet.specs.Checking.{judged, surveyed, inspected};
+ghost use Rattle.std.specs.Prelude.{◌≡◌, ◌+◌, ◌*◌, ◌≤◌, length, IfOk};
+ghost use Rattle.octagon.specs.Outcome.{accepted, «then»};
+ghost use Rattle.octagon.specs.Answers.{outcome};
+ghost use Rattle.sheet.specs.Rows.{plots_in};
+ghost use Rattle.sheet.specs.Checking.{judged, all_judged, parsed};
+ghost use Rattle.sheet.specs.Stored.{said};
+ghost use Rattle.sheet.specs.StoredRecords.{plot_of};
 
-use crate::encoding::{number_at, outline_at};
-use crate::trailer::{Framed, Trailer, frame};
-use crate::{BAD_NUMBER, TRAILER};
-use octagon::Answer;
+use crate::encoding::StoredRecord;
+use crate::rows::{Rows, all_rows};
+use crate::stored::Records;
+use crate::trailer::frame;
+use octagon::Refusal;
 
-// The plot number of a record, or the number of the refusal.
-#[derive(Clone, Copy)]
-enum Judged {
-    Number(u32),
-    Refused(u32),
-}
-
-// The plot number of the record of `each` bytes at an index. Refuses one that is not above `before`, then the outline's refusals.
-fn judge(s: &[u8], at: usize, each: usize, before: u32) -> Judged
-    requires { (at + each ≤ length s.now) × IsRecordLength each }
-    ensures { number_outcome result ≡ judged before (decoded (layout_of each) (part s.now at each)) }
+// The plot number of a record. Refuses one that is not above `before`, then the outline's refusals.
+fn judge(r: StoredRecord, before: u32) -> Result<u32, Refusal>
+    ensures { outcome result ≡ judged before (plot_of r.entry) }
 {
-    let number = number_at(s, at, each);
+    let number = r.number();
     if number <= before {
-        return Judged::Refused(BAD_NUMBER);
+        return Err(Refusal::BadNumber);
     }
-    match outline::to_octagon(outline_at(s, at, each)) {
-        Answer::Refused(k) => Judged::Refused(k),
-        Answer::Octagon(_) => Judged::Number(number),
-    }
+    outline::to_octagon(r.outline())?;
+    Ok(number)
 }
 
-// Checks the records of `each` bytes that a trailer counts, in order, and answers the trailer.
-fn survey(s: &[u8], first: usize, each: usize, z: Trailer) -> Framed
-    requires { (first + each * z.count ≤ length s.now) × IsRecordLength each }
-    ensures { trailer_outcome result ≡ surveyed z 0 (plots_from each s.now first z.count) }
+// Checks the records x in order.
+fn survey(s: &[u8], x: Rows) -> Result<(), Refusal>
+    requires { x.at + x.each.bytes * x.count ≤ length s.now }
+    ensures { outcome result ≡ all_judged (plots_in s.now x) }
 {
-    let mut p = first;
     let mut before = 0;
-    let mut left = z.count;
-    while 0 < left {
-        match judge(s, p, each, before) {
-            Judged::Refused(k) => {
-                return Framed::Refused(k);
-            }
-            Judged::Number(number) => {
-                before = number;
-            }
-        }
-        p += each;
-        left -= 1;
+    for k in 0..x.count {
+        before = judge(x.record(s, k), before)?;
     }
-    Framed::Trailer(z)
+    Ok(())
 }
 
-// The trailer of a sheet whose frame and records are right. Refuses as `check` does.
-pub fn inspect(sheet: &[u8], len: usize) -> Framed
-    ensures { trailer_outcome result ≡ inspected sheet.now len }
+// The records of a sheet whose frame and records are right. Refuses as `check` does.
+pub fn inspect(sheet: &[u8], len: usize) -> Result<Records<'_>, Refusal>
+    ensures sheet { «then» (outcome result) (λ x. accepted (said x)) ≡ parsed sheet.now len }
+    ensures bytes { IfOk result (λ x. x.bytes.now ≡ sheet.now) }
 {
-    match frame(sheet, len) {
-        Framed::Refused(e) => Framed::Refused(e),
-        Framed::Trailer(z) => {
-            let first = len - TRAILER - (z.distance as usize);
-            survey(sheet, first, z.length as usize, z)
-        }
-    }
+    let z = frame(sheet, len)?;
+    let rows = all_rows(len, z);
+    survey(sheet, rows)?;
+    Ok(Records { bytes: sheet, rows })
 }

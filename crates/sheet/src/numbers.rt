@@ -1,15 +1,7 @@
 // Numbers in bytes, the lowest byte first, and numbers in fields of given widths, one after the other.
-ghost use Rattle.std.specs.Prelude.{◌≡◌, true, ◌+◌, ◌≤◌, ◌<◌, length, get_or, drop};
+ghost use Rattle.std.specs.Prelude.{◌≡◌, true, ℕ, ◌+◌, ◌^◌, ◌≤◌, ◌<◌, length, drop, get_or};
 ghost use Rattle.records.specs.Numbers.{number, bytes, total_width, packed, unpacked, narrow};
 ghost use Rattle.records.specs.Parts.{part, splice};
-
-// One byte as a number.
-fn byte_at(s: &[u8], at: usize) -> u32
-    requires { at < length s.now }
-    ensures { (result ≡ get_or s.now at 0) × (result < 256) }
-{
-    s[at] as u32
-}
 
 // The number in `width` bytes.
 pub fn read_number(s: &[u8], at: usize, width: usize) -> u32
@@ -17,10 +9,8 @@ pub fn read_number(s: &[u8], at: usize, width: usize) -> u32
     ensures { result ≡ number (part s.now at width) }
 {
     let mut v = 0;
-    let mut i = width;
-    while 0 < i {
-        i -= 1;
-        v = v * 256 + byte_at(s, at + i);
+    for i in (0..width).rev() {
+        v = v * 256 + u32::from(s[at + i]);
     }
     v
 }
@@ -31,42 +21,37 @@ pub fn put_number(s: &mut [u8], at: usize, width: usize, v: u32)
     ensures { s.new ≡ splice s.old at (bytes width v) }
 {
     let mut rest = v;
-    let mut i = 0;
-    while i < width {
+    for i in 0..width {
         s[at + i] = (rest % 256) as u8;
-        rest = rest / 256;
-        i += 1;
+        rest /= 256;
     }
 }
 
-// The numbers in fields of these widths.
-pub fn unpack(s: &[u8], at: usize, widths: &[usize], values: &mut [u32])
-    requires widths_in_bounds { (at + total_width widths.now ≤ length s.now) × (narrow widths.now ≡ true) }
-    requires values_len { length values.old ≡ length widths.now }
-    ensures { values.new ≡ unpacked widths.now (drop at s.now) }
+// The numbers in fields of these widths. Compiled into each call, as is `pack`, so that the widths are known there.
+#[inline(always)]
+pub fn unpack<const N: usize>(s: &[u8], at: usize, widths: &[usize; N]) -> [u32; N]
+    requires { (at + total_width widths.now ≤ length s.now) × (narrow widths.now ≡ true) }
+    ensures values { result ≡ unpacked widths.now (drop at s.now) }
+    ensures fit { (k : ℕ) → k < N → get_or result k 0 < 256 ^ get_or widths.now k 0 }
 {
+    let mut values = [0; N];
     let mut p = at;
-    let mut k = 0;
-    while k < widths.len() {
-        let w = widths[k];
-        values[k] = read_number(s, p, w);
-        p += w;
-        k += 1;
+    for (k, w) in widths.iter().enumerate() {
+        values[k] = read_number(s, p, *w);
+        p += *w;
     }
+    values
 }
 
 // Writes numbers into fields of these widths.
-pub fn pack(s: &mut [u8], at: usize, widths: &[usize], values: &[u32])
-    requires widths_in_bounds { at + total_width widths.now ≤ length s.old }
-    requires values_len { length values.now ≡ length widths.now }
+#[inline(always)]
+pub fn pack<const N: usize>(s: &mut [u8], at: usize, widths: &[usize; N], values: &[u32; N])
+    requires { at + total_width widths.now ≤ length s.old }
     ensures { s.new ≡ splice s.old at (packed widths.now values.now) }
 {
     let mut p = at;
-    let mut k = 0;
-    while k < widths.len() {
-        let w = widths[k];
-        put_number(s, p, w, values[k]);
-        p += w;
-        k += 1;
+    for (k, w) in widths.iter().enumerate() {
+        put_number(s, p, *w, values[k]);
+        p += *w;
     }
 }

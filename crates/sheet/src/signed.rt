@@ -1,8 +1,8 @@
-// Signed numbers in two's complement of a given number of bytes.
+// Signed numbers in two's complement of a given number of bytes. A width is a plain number, as it stands in an array of widths, of which
+// one fact says that each is at most 4.
 ghost use Rattle.std.specs.Prelude.{◌≡◌, ◌/◌, ◌^◌, ◌≤◌, ◌<◌};
 ghost use Rattle.std.specs.Int.Signed.{mag};
 ghost use Rattle.records.specs.Numbers.{signed, twos};
-ghost use Rattle.sheet.specs.Layout.{Resizable};
 
 // How many numbers there are of 0 to 4 bytes.
 const POWERS: [u64; 5] = [1, 256, 65536, 16777216, 4294967296];
@@ -35,12 +35,4 @@ pub fn to_twos(x: i32, width: usize) -> u32
     } else {
         wide as u32
     }
-}
-
-// The number of the `wide` bytes of the signed number that v is in `width` bytes.
-pub fn resize(v: u32, width: usize, wide: usize) -> u32
-    requires { Resizable width wide v }
-    ensures { result ≡ twos wide (signed width v) }
-{
-    to_twos(to_signed(v, width), wide)
 }

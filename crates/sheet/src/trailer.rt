@@ -1,29 +1,23 @@
 // The trailer that ends a sheet.
 ghost use Rattle.std.specs.Prelude.{◌≡◌, ◌+◌, ◌*◌, ◌≤◌, ◌<◌, length};
 ghost use Rattle.records.specs.Parts.{splice};
-ghost use Rattle.sheet.specs.Answers.{trailer_outcome};
+ghost use Rattle.octagon.specs.Answers.{outcome};
 ghost use Rattle.sheet.specs.Trailer.{trailer_length, trailer, trailer_at};
 ghost use Rattle.sheet.specs.Checking.{is_bad_length, stated, framed};
 
-use crate::encoding::is_record_length;
+use crate::layout::is_record_length;
 use crate::numbers::{pack, unpack};
-use crate::{BAD_DISTANCE, BAD_LENGTH, BAD_TRAILER, LIMIT, TRAILER};
+use crate::{LIMIT, TRAILER};
+use octagon::Refusal;
 
 // The numbers in a trailer: its records' distance in bytes, their count and the length of each, zero bytes, letters.
-#[derive(Clone, Copy)]
+#[derive(Clone, Copy, Debug, PartialEq, Eq, Hash)]
 pub struct Trailer {
     pub distance: u32,
     pub count: u32,
     pub length: u32,
     pub zeros: u32,
     pub letters: u32,
-}
-
-// The trailer of a sheet, or the number of the refusal.
-#[derive(Clone, Copy)]
-pub enum Framed {
-    Trailer(Trailer),
-    Refused(u32),
 }
 
 // How many numbers a trailer has, and their widths in bytes.
@@ -40,8 +34,7 @@ pub fn read_trailer(s: &[u8], at: usize) -> Trailer
     requires { at + trailer_length ≤ length s.now }
     ensures { result ≡ trailer_at s.now at }
 {
-    let mut v = [0u32; FIELDS];
-    unpack(s, at, &WIDTHS, &mut v);
+    let v = unpack(s, at, &WIDTHS);
     Trailer {
         distance: v[0],
         count: v[1],
@@ -61,20 +54,20 @@ pub fn put_trailer(s: &mut [u8], at: usize, each: u32, count: u32)
 }
 
 // A trailer that is right for a sheet of `len` bytes. Refuses wrong marks, then a wrong distance.
-pub fn state(z: Trailer, len: usize) -> Framed
+pub fn state(z: Trailer, len: usize) -> Result<Trailer, Refusal>
     requires { trailer_length ≤ len }
-    ensures { trailer_outcome result ≡ stated len z }
+    ensures { outcome result ≡ stated len z }
 {
     let distance = z.distance as usize;
     let count = z.count as usize;
     let length = z.length as usize;
     if !is_record_length(length) | (z.zeros != 0) | (z.letters != LETTERS) {
-        return Framed::Refused(BAD_TRAILER);
+        return Err(Refusal::BadTrailer);
     }
     if (distance != length * count) | (len - TRAILER < distance) {
-        return Framed::Refused(BAD_DISTANCE);
+        return Err(Refusal::BadDistance);
     }
-    Framed::Trailer(z)
+    Ok(z)
 }
 
 // Whether no sheet in this buffer can have `len` bytes: fewer than a trailer, more than the limit, or more than the buffer.
@@ -85,11 +78,11 @@ pub fn is_bad_length(sheet: &[u8], len: usize) -> bool
 }
 
 // The trailer of a sheet. Refuses a wrong length first.
-pub fn frame(sheet: &[u8], len: usize) -> Framed
-    ensures { trailer_outcome result ≡ framed sheet.now len }
+pub fn frame(sheet: &[u8], len: usize) -> Result<Trailer, Refusal>
+    ensures { outcome result ≡ framed sheet.now len }
 {
     if is_bad_length(sheet, len) {
-        return Framed::Refused(BAD_LENGTH);
+        return Err(Refusal::BadLength);
     }
     state(read_trailer(sheet, len - TRAILER), len)
 }

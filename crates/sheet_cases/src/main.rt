@@ -2,12 +2,15 @@
 // the expected output out on its own.
 #![tactic(auto)]
 
-use answers::show;
-use making::{NARROW, WIDE, example, tell_written};
+use buffer::Buffer;
+use format::Format;
+use making::PAIR;
+use std::io;
 
-mod answers;
+mod buffer;
 mod edges;
 mod fees;
+mod format;
 mod fullest;
 mod headings;
 mod large;
@@ -22,54 +25,65 @@ mod trailers;
 mod words;
 
 // Document 01's two plots, and a sheet with none.
-fn samples() {
-    let mut sheet = [0u8; 68];
-    let len = example(&mut sheet);
-    show(&sheet, len);
-    let empty = tell_written(sheet::start(&mut sheet, 52), 0);
-    show(&sheet, empty);
+fn samples(rt: &impl Print) -> io::Result<()> {
+    let mut bytes = [0; PAIR];
+    let mut sheet = Buffer::new(&mut bytes, 0);
+    sheet.make_example(rt)?;
+    sheet.show(rt)?;
+    sheet.tell_start(rt, 52)?;
+    sheet.show(rt)
 }
 
-// The sheet of two plots that has this length: its bytes, trailers and lengths changed, and plots put into it.
-fn two_plots(len: usize) {
-    spoilt::every_byte(len);
-    spoilt::wrong_lengths(len);
-    trailers::trailers(len);
-    reading::reading(len);
-    orders::numbers(len);
-    orders::last_number(len);
+// The sheet of two plots in a format: its bytes, trailers and lengths changed, and plots put into it.
+fn two_plots(rt: &impl Print, format: Format) -> io::Result<()> {
+    spoilt::every_byte(rt, format)?;
+    spoilt::wrong_lengths(rt, format)?;
+    trailers::trailers(rt, format)?;
+    reading::reading(rt, format)?;
+    orders::numbers(rt, format)?;
+    orders::last_number(rt, format)
 }
 
 // The sheet of 24 that is kept as its bytes.
-fn old_sheet() {
-    old::unaltered();
-    old::places();
-    old::rooms();
-    old::empty();
+fn old_sheet(rt: &impl Print) -> io::Result<()> {
+    old::unaltered(rt)?;
+    old::places(rt)?;
+    old::rooms(rt)?;
+    old::empty(rt)
 }
 
 // The fullest sheets.
-fn full_sheets() {
-    fullest::fullest(2519);
-    fullest::fullest(2520);
-    fullest::fullest(2730);
-    large::largest();
+fn full_sheets(rt: &impl Print) -> io::Result<()> {
+    for count in [2519, 2520, 2730] {
+        fullest::fullest(rt, count)?;
+    }
+    large::largest(rt)
 }
 
-fn main() {
-    samples();
-    two_plots(NARROW);
-    two_plots(WIDE);
-    spoilt::narrow_twice();
-    spoilt::wide_twice();
-    orders::outlines();
-    edges::edges(24);
-    edges::edges(26);
-    fees::fees();
-    headings::ordered(7, 256, 65537);
-    headings::ordered(65537, 256, 7);
-    headings::ordered(256, 65537, 7);
-    old_sheet();
-    orders::limits();
-    full_sheets();
+// Inserts of three plots in several orders.
+fn three_orders(rt: &impl Print) -> io::Result<()> {
+    for numbers in [[7, 256, 65537], [65537, 256, 7], [256, 65537, 7]] {
+        headings::ordered(rt, numbers)?;
+    }
+    Ok(())
+}
+
+fn all(rt: &impl Print) -> io::Result<()> {
+    samples(rt)?;
+    two_plots(rt, Format::Narrow)?;
+    two_plots(rt, Format::Wide)?;
+    spoilt::twice(rt)?;
+    orders::outlines(rt)?;
+    edges::edges(rt, Format::Narrow)?;
+    edges::edges(rt, Format::Wide)?;
+    fees::fees(rt)?;
+    three_orders(rt)?;
+    old_sheet(rt)?;
+    orders::limits(rt)?;
+    full_sheets(rt)
+}
+
+// Where a line cannot be written, nothing more is.
+fn main(rt: HostRuntime) {
+    let _ = all(&rt);
 }

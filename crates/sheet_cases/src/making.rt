@@ -1,87 +1,34 @@
-// Plots put into sheets.
-use crate::narrow::narrow_pair;
-use crate::plots::{block, diamond, fee_row, plot, wide};
-use crate::words::{say_line, say_refused};
-use outline::Outline;
-use sheet::{Record, Written};
+// Sheets that are made by `start` and `insert`, and the sheets of two plots.
+use crate::buffer::Buffer;
+use crate::format::Format;
+use crate::plots::{block, diamond, plot, wide};
+use std::io;
 
-// The length of a sheet that was written; after a refusal, which is written out, the length that it had.
-pub fn written(answer: Written, len: usize) -> usize {
-    match answer {
-        Written::Length(n) => n,
-        Written::Refused(k) => {
-            say_refused(k);
-            len
+// Room for a sheet of two plots of either format.
+pub const PAIR: usize = 68;
+
+impl Buffer<'_> {
+    // Document 01's two plots.
+    pub fn make_example(&mut self, rt: &impl Print) -> io::Result<()> {
+        self.start(rt, 0)?;
+        self.insert(rt, 7, block())?;
+        self.insert(rt, 11407, diamond())
+    }
+
+    // A sheet of two plots in 68 bytes: number 255 in the corner of the map, up to its east and north edges, and number 511.
+    fn make_wide_pair(&mut self, rt: &impl Print) -> io::Result<()> {
+        self.start(rt, 0)?;
+        self.insert(rt, 511, plot(511))?;
+        self.insert(rt, 255, wide(15439, 14702))
+    }
+
+    // A sheet of these two plots in a format.
+    pub fn make_pair(&mut self, rt: &impl Print, format: Format) -> io::Result<()> {
+        match format {
+            Format::Narrow => self.put_narrow_pair(),
+            Format::Wide => self.make_wide_pair(rt)?,
         }
+        self.len = format.pair();
+        Ok(())
     }
-}
-
-// The same, with the length that was answered written out too.
-pub fn tell_written(answer: Written, len: usize) -> usize {
-    match answer {
-        Written::Length(n) => {
-            say_line(b"length", n as u64);
-            n
-        }
-        Written::Refused(k) => {
-            say_refused(k);
-            len
-        }
-    }
-}
-
-// A plot with the fee row of its number.
-fn with_fee(number: u32, outline: Outline) -> Record {
-    let fee = fee_row(number);
-    Record {
-        number,
-        outline,
-        fee_row: fee,
-    }
-}
-
-// Inserts a plot, and answers the length of the sheet.
-pub fn add(sheet: &mut [u8], len: usize, number: u32, outline: Outline) -> usize {
-    written(sheet::insert(sheet, len, with_fee(number, outline)), len)
-}
-
-// The same, with what `insert` answers written out.
-pub fn tell_added(sheet: &mut [u8], len: usize, number: u32, outline: Outline) -> usize {
-    tell_written(sheet::insert(sheet, len, with_fee(number, outline)), len)
-}
-
-// Document 01's two plots.
-pub fn example(sheet: &mut [u8]) -> usize {
-    let empty = written(sheet::start(sheet, 0), 0);
-    let one = add(sheet, empty, 7, block());
-    add(sheet, one, 11407, diamond())
-}
-
-// A sheet of two plots in 68 bytes: number 255 in the corner of the map, up to its east and north edges, and number 511.
-fn wide_pair(sheet: &mut [u8]) {
-    let empty = written(sheet::start(sheet, 0), 0);
-    let one = add(sheet, empty, 511, plot(511));
-    add(sheet, one, 255, wide(15439, 14702));
-}
-
-// The lengths of the sheet of these two plots, by 24 and by 26 bytes a record.
-pub const NARROW: usize = 64;
-
-pub const WIDE: usize = 68;
-
-// Makes that of this length.
-pub fn pair(sheet: &mut [u8], len: usize) {
-    if len == NARROW {
-        narrow_pair(sheet);
-    } else {
-        wide_pair(sheet);
-    }
-}
-
-// The index so far before the end of a sheet.
-pub fn before_end(len: usize, back: usize) -> usize {
-    if len < back {
-        return 0;
-    }
-    len - back
 }

@@ -1,53 +1,51 @@
-// What `check`, `fetch` and `read` answer, side by side, for a sheet of two plots by 24 and by 26 bytes a record. A `read` looks at the
-// length, the trailer and k, and not at the records.
-use crate::answers::{say_both, say_checked, say_read};
-use crate::making::{WIDE, before_end, pair};
-use crate::spoilt::change;
+// What `check`, `fetch` and `read` answer, side by side, for a sheet of two plots of either format. A `read` looks at the length, the
+// trailer and k, and not at the records.
+use crate::buffer::Buffer;
+use crate::format::Format;
+use crate::making::PAIR;
+use std::io;
 
-// The answers for one byte changed, and record k.
-fn changed(len: usize, at: usize, byte: u8, k: u32) {
-    let mut sheet = [0u8; WIDE];
-    pair(&mut sheet, len);
-    change(&mut sheet, at, byte);
-    say_checked(&sheet, len);
-    say_both(&sheet, len, k);
+// The answers for one byte changed, each time, and record k.
+fn changed(rt: &impl Print, format: Format, all: &[(usize, u8, u32)]) -> io::Result<()> {
+    for (at, byte, k) in all {
+        let mut bytes = [0; PAIR];
+        let mut sheet = Buffer::new(&mut bytes, 0);
+        sheet.make_pair(rt, format)?;
+        sheet.put(*at, &[*byte]);
+        sheet.say_checked(rt)?;
+        sheet.say_both(rt, *k)?;
+    }
+    Ok(())
 }
 
 // The sheet as it is: its first byte is 255. Both records, and two that there are not.
-fn sound(len: usize) {
-    changed(len, 0, 255, 0);
-    changed(len, 0, 255, 1);
-    changed(len, 0, 255, 2);
-    changed(len, 0, 255, 4294967295);
-}
+const SOUND: [(usize, u8, u32); 4] = [(0, 255, 0), (0, 255, 1), (0, 255, 2), (0, 255, u32::MAX)];
 
 // A number that is 0, an outline that is open, and one that leaves the map, in the record that is asked for or in another, or before a k
 // that is too large.
-fn wrong_records(len: usize) {
-    changed(len, 0, 0, 0);
-    changed(len, 8, 43, 1);
-    changed(len, 5, 127, 0);
-    changed(len, 0, 0, 2);
-}
+const WRONG_RECORDS: [(usize, u8, u32); 4] = [(0, 0, 0), (8, 43, 1), (5, 127, 0), (0, 0, 2)];
 
 // Wrong letters, and a wrong distance, before a k that is too large.
-fn wrong_trailers(len: usize) {
-    changed(len, before_end(len, 1), 69, 2);
-    changed(len, before_end(len, 16), 47, 2);
+fn wrong_trailers(rt: &impl Print, format: Format) -> io::Result<()> {
+    let end = format.pair();
+    changed(rt, format, &[(end - 1, 69, 2), (end - 16, 47, 2)])
 }
 
 // Lengths that are too short, or not the sheet's, before a k that is too large.
-fn wrong_lengths(len: usize) {
-    let mut sheet = [0u8; WIDE];
-    pair(&mut sheet, len);
-    say_read(&sheet, 15, 2);
-    say_read(&sheet, before_end(len, 1), 2);
-    say_read(&sheet, WIDE + 1, 2);
+fn wrong_lengths(rt: &impl Print, format: Format) -> io::Result<()> {
+    let mut bytes = [0; PAIR];
+    let mut sheet = Buffer::new(&mut bytes, 0);
+    sheet.make_pair(rt, format)?;
+    for len in [15, format.pair() - 1, PAIR + 1] {
+        sheet.len = len;
+        sheet.say_read(rt, 2)?;
+    }
+    Ok(())
 }
 
-pub fn reading(len: usize) {
-    sound(len);
-    wrong_records(len);
-    wrong_trailers(len);
-    wrong_lengths(len);
+pub fn reading(rt: &impl Print, format: Format) -> io::Result<()> {
+    changed(rt, format, &SOUND)?;
+    changed(rt, format, &WRONG_RECORDS)?;
+    wrong_trailers(rt, format)?;
+    wrong_lengths(rt, format)
 }

@@ -1,53 +1,42 @@
-// Words, numbers and digests on standard output.
-use integers::magnitude;
+// Numbers and records as they are written, and digests.
+use outline::Outline;
+use sheet::Record;
+use std::{fmt, io};
 
-// The descriptor of standard output.
-const STDOUT_FILENO: i32 = 1;
+// The sides of an outline, each after a space.
+#[derive(Clone, Copy)]
+struct Sides(Outline);
 
-// Writes bytes.
-pub fn say(bytes: &[u8]) {
-    io::write_all(STDOUT_FILENO, bytes);
-}
-
-// Writes a space and a number.
-pub fn say_number(n: u64) {
-    say(b" ");
-    io::print_decimal(STDOUT_FILENO, n);
-}
-
-// Writes a space and a signed number.
-pub fn say_signed(n: i32) {
-    say(b" ");
-    if n < 0 {
-        say(b"-");
+impl fmt::Display for Sides {
+    fn fmt<W: fmt::Write>(&self, f: &mut fmt::Formatter<W>) -> fmt::Result {
+        for side in self.0.sides() {
+            write!(f, " {side}")?;
+        }
+        Ok(())
     }
-    io::print_decimal(STDOUT_FILENO, magnitude(n));
 }
 
-// Writes a line of a word and a number.
-pub fn say_line(word: &[u8], n: u64) {
-    say(word);
-    say_number(n);
-    say(b"\n");
-}
+// A record: its number, start, sides and fee row.
+#[derive(Clone, Copy)]
+pub struct Fields(pub Record);
 
-// Writes a refusal.
-pub fn say_refused(number: u32) {
-    say_line(b"refused", number as u64);
-}
-
-// A number made of all bytes in order.
-fn digest(bytes: &[u8]) -> u64 {
-    let mut sum: u64 = 0;
-    let mut i = 0;
-    while i < bytes.len() {
-        sum = (sum * 31 + (bytes[i] as u64)) % 4294967296;
-        i += 1;
+impl fmt::Display for Fields {
+    fn fmt<W: fmt::Write>(&self, f: &mut fmt::Formatter<W>) -> fmt::Result {
+        let r = self.0;
+        let o = r.outline;
+        write!(f, "{} {} {}{} {}", r.number, o.i, o.j, Sides(o), r.fee_row)
     }
-    sum
+}
+
+// A number made of all bytes in order, round 2 ^ 32.
+fn digest(bytes: &[u8]) -> u32 {
+    bytes.iter().fold(
+        0u32,
+        |sum, byte| sum.wrapping_mul(31).wrapping_add(u32::from(*byte)),
+    )
 }
 
 // Writes the digest of bytes.
-pub fn say_digest(bytes: &[u8]) {
-    say_line(b"digest", digest(bytes));
+pub fn say_digest(rt: &impl Print, bytes: &[u8]) -> io::Result<()> {
+    println!(rt; "digest {}", digest(bytes))
 }

@@ -1,7 +1,7 @@
 -- The spectrum from the normal forms of its operands: they open the same cells, so the walk by them is the walk. Assumes nothing.
 use mathlib.Core.Path.{◌≡◌, refl}
 use Prim.Native.Nat.{ℕ}
-use Rattle.octagon.specs.declared.Octagon.{Octagon}
+use Rattle.octagon.specs.Octagon.{Octagon}
 use Rattle.octagon.specs.Outcome.{accepted}
 use Rattle.octagon.specs.NormalForm.{normalised}
 use Rattle.octagon.proofs.NormalForms.{normalised_again}

@@ -10,7 +10,7 @@ use Rattle.integers.specs.Minimum.{min_ℤ, half_ℤ}
 use Rattle.integers.proofs.Parts.{up, dn}
 use Rattle.integers.proofs.Tests.{cases, true_is_not_false}
 use Rattle.integers.proofs.Linear.{lit, same}
-use Rattle.octagon.specs.declared.Octagon.{Octagon}
+use Rattle.octagon.specs.Octagon.{Octagon}
 use Rattle.octagon.specs.Outcome.{accepted}
 use Rattle.octagon.specs.Cells.{◌⊆◌, In, limit}
 use Rattle.octagon.specs.NormalForm.{even_bound, odd_bound, tight_even, tight_odd, normal_form, has_cell, is_on_map, placed, normalised}

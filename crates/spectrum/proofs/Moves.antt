@@ -6,7 +6,7 @@ use Prim.Native.Nat.{ℕ}
 use native.Mathlib.Omega.{arith}
 use lib.IntN.{ℤ, pos, neg_ℤ, ◌+ℤ◌, ◌-ℤ◌, nat_abs, +ℤ-neg_ℤ_cancel, -ℤ-+ℤ_cancel}
 use Rattle.integers.proofs.Linear.{#, ◌⊕◌, neg, lit, ◌≈◌, same}
-use Rattle.octagon.specs.declared.Octagon.{Octagon}
+use Rattle.octagon.specs.Octagon.{Octagon}
 use Rattle.octagon.specs.Cells.{Cells, ◌≐◌, Empty, Smallest}
 use Rattle.octagon.specs.OneCell.{OneCell, one_cell}
 use Rattle.octagon.specs.NormalForm.{odd_side}

@@ -7,7 +7,7 @@ use lib.IntN.{ℤ, pos, ◌+ℤ◌, ◌*ℤ◌, +ℤ_idr}
 use Rattle.integers.proofs.Parts.{sum_parts}
 use Rattle.integers.proofs.Linear.{#, ◌⊕◌, same}
 use Rattle.integers.proofs.Multiples.{times_zero, times_suc, times_small}
-use Rattle.octagon.specs.declared.Octagon.{Octagon}
+use Rattle.octagon.specs.Octagon.{Octagon}
 use Rattle.octagon.specs.Outcome.{Outcome, accepted, refused, off_map, then}
 use Rattle.octagon.specs.Cells.{Cells, ◌⊆◌, Empty, In, OnMap, LeavesMap, limit}
 use Rattle.octagon.specs.NormalForm.{normalised}

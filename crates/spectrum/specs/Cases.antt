@@ -2,7 +2,7 @@
 -- entry counts, what is left of the list, and what a moved plot is. proofs/Cases, Ends, Losses, Lists and MovedPlots.antt join them to the
 -- definitions that compute. Assumes nothing.
 use Rattle.std.specs.Prelude.{◌≡◌, List, ℕ, suc, ◌<◌, ◌≤◌, length, get_or, ℤ, pos, ◌-ℤ◌}
-use Rattle.octagon.specs.declared.Octagon.{Octagon}
+use Rattle.octagon.specs.Octagon.{Octagon}
 use Rattle.octagon.specs.Outcome.{Outcome, accepted, refused}
 use Rattle.octagon.specs.Cells.{Cells, ◌⊆◌, In, limit}
 use Rattle.octagon.specs.OneCell.{OneCell}

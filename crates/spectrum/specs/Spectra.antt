@@ -1,7 +1,7 @@
 -- The pattern spectrum of a plot by a frame, and the answer of `pattern_spectrum`: definitions that compute. Where no opening is filled it is
 -- source document 004's (9). proofs/ says what they mean in sets. Assumes nothing.
 use Rattle.std.specs.Prelude.{Bool, cond, List, ℕ, eqb, pos, length}
-use Rattle.octagon.specs.declared.Octagon.{Octagon}
+use Rattle.octagon.specs.Octagon.{Octagon}
 use Rattle.octagon.specs.Outcome.{Outcome, accepted, refused, then, left}
 use Rattle.octagon.specs.NormalForm.{normalised}
 use Rattle.cell_count.specs.Count.{inside}

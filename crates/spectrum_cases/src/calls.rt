@@ -1,73 +1,46 @@
 // One call of `pattern_spectrum`: what it answers, and what is then in the list.
-ghost use Rattle.std.specs.Prelude.{◌≤◌};
-
-use crate::words;
-use crate::words::wide;
+use crate::answers::Told;
+use crate::words::{Bounds, Places};
 use octagon::Octagon;
-use spectrum::Spectrum;
+use spectrum::pattern_spectrum;
+use std::io;
 
-// The most places of a list: as many as a row of the map has cells, and as a spectrum can have entries.
-pub const SIDE: usize = 32001;
-
-// A digest is below this.
-const ROOM: u64 = 4294967296;
-
-// Goes on with a number.
-pub fn mixed(sum: u64, n: u64) -> u64 {
-    (sum % ROOM * 69069 + n % ROOM) % ROOM
-}
-
-// The digest of an answer: its case and its number.
-fn digest(answer: Spectrum) -> u64 {
-    match answer {
-        Spectrum::Finished(n) => mixed(0, n as u64),
-        Spectrum::Spent(n) => mixed(1, n as u64),
-        Spectrum::Refused(k) => mixed(2, k as u64),
-    }
-}
-
-// Two numbers made of the places of a list.
+// The operands of a call.
 #[derive(Clone, Copy)]
-struct Sums {
-    digest: u64,
-    total: u64,
-}
-
-// Goes on with the digest by all places, and adds these up.
-fn summed(from: u64, list: &[u32]) -> Sums {
-    let mut digest = from;
-    let mut total = 0;
-    let mut k = 0;
-    while k < list.len() {
-        let n = wide(list[k]);
-        digest = mixed(digest, n);
-        total = std::num::wrapping_add_u64(total, n);
-        k += 1;
-    }
-    Sums { digest, total }
+pub struct Call {
+    pub plot: Octagon,
+    pub frame: Octagon,
 }
 
 // What a list has before a call: 901, 902 and on.
 fn fill(list: &mut [u32]) {
-    let mut k = 0;
-    while k < list.len() {
-        list[k] = (k % 65536) as u32 + 901;
-        k += 1;
+    for (k, n) in list.iter_mut().enumerate() {
+        *n = (k % 65536) as u32 + 901;
     }
 }
 
-// Makes a call with so many places, and writes it on a line if it is to be shown. Answers a digest of what the call answered and of the list.
-pub fn tell(plot: Octagon, frame: Octagon, places: usize, is_shown: bool) -> u64
-    requires { places ≤ 32001 }
-{
-    let mut all = [0u32; SIDE];
-    let list = &mut all[..places];
-    fill(list);
-    let answer = spectrum::pattern_spectrum(plot, frame, list);
-    let after = summed(digest(answer), list);
-    if is_shown {
-        words::say_call(plot, frame, places, answer);
-        words::say_list(after.total, list);
+impl Call {
+    // Makes the call with all places of a list.
+    fn answer(&self, list: &mut [u32]) -> Told {
+        fill(list);
+        Told::from(pattern_spectrum(self.plot, self.frame, list))
     }
-    after.digest
+
+    // Makes the call, and gives a digest of what it answered and of the list.
+    pub fn digest(&self, list: &mut [u32]) -> u32 {
+        self.answer(list).digest(list)
+    }
+
+    // The same, with the call written on a line.
+    pub fn tell(&self, rt: &impl Print, list: &mut [u32]) -> io::Result<u32> {
+        let answer = self.answer(list);
+        println!(rt;
+            "plot{}, frame{}, places {}: {answer}, {}",
+            Bounds(self.plot),
+            Bounds(self.frame),
+            list.len(),
+            Places(list)
+        )?;
+        Ok(answer.digest(list))
+    }
 }

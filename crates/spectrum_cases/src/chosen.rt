@@ -1,8 +1,7 @@
 // Spectra that were worked out by hand, and calls that are refused. tests/spectra.py has the drawings.
-ghost use Rattle.std.specs.Prelude.{◌≤◌};
-
-use crate::calls::tell;
+use crate::calls::Call;
 use octagon::Octagon;
+use std::io;
 
 const MAX: i32 = i32::MAX;
 
@@ -18,60 +17,72 @@ const PLOT: Octagon = Octagon {
     c7: -1,
 };
 
-// Calls with each number of places below the end.
-fn lengths(plot: Octagon, frame: Octagon, end: usize)
-    requires { end ≤ 25 }
-{
-    for places in 0..end {
-        tell(plot, frame, places, true);
+// Calls with each number of places up to those of a list.
+fn lengths(rt: &impl Print, call: Call, list: &mut [u32]) -> io::Result<()> {
+    for places in 0..=list.len() {
+        call.tell(rt, &mut list[..places])?;
     }
+    Ok(())
 }
 
 // Up to one place more than there are entries: a block of four cells, and seven cells, with (0, 0) in a corner; K13 by K4; and a rising pair.
 // The last opening of these two is filled.
-pub fn by_hand() {
-    lengths(PLOT, Octagon::new(0, 0, 0, 1, 1, 2, 1, 1), 6);
-    lengths(
-        Octagon::new(1, 4, 7, 10, 5, 3, -1, -2),
-        Octagon::new(1, 0, 0, 0, 1, 2, 3, 4),
-        5,
-    );
-    lengths(
-        Octagon::new(0, 0, 1, 2, 2, 2, 1, 0),
-        Octagon::new(0, 0, 0, 0, 1, 2, 1, 0),
-        4,
-    );
-    lengths(
-        Octagon::new(-2, -4, 0, 5, 6, 10, 4, 1),
-        Octagon::new(1, 0, 0, 0, 0, 0, 1, 2),
-        6,
-    );
+pub fn by_hand(rt: &impl Print) -> io::Result<()> {
+    let block = Call {
+        plot: PLOT,
+        frame: Octagon::new(0, 0, 0, 1, 1, 2, 1, 1),
+    };
+    let seven = Call {
+        plot: Octagon::new(1, 4, 7, 10, 5, 3, -1, -2),
+        frame: Octagon::new(1, 0, 0, 0, 1, 2, 3, 4),
+    };
+    let diamond = Call {
+        plot: Octagon::new(0, 0, 1, 2, 2, 2, 1, 0),
+        frame: Octagon::new(0, 0, 0, 0, 1, 2, 1, 0),
+    };
+    let rising = Call {
+        plot: Octagon::new(-2, -4, 0, 5, 6, 10, 4, 1),
+        frame: Octagon::new(1, 0, 0, 0, 0, 0, 1, 2),
+    };
+    lengths(rt, block, &mut [0; 5])?;
+    lengths(rt, seven, &mut [0; 4])?;
+    lengths(rt, diamond, &mut [0; 3])?;
+    lengths(rt, rising, &mut [0; 5])
+}
+
+// Calls of one plot by several frames, with up to three places.
+fn by_each(rt: &impl Print, plot: Octagon, frames: &[Octagon]) -> io::Result<()> {
+    for frame in frames {
+        let frame = *frame;
+        lengths(rt, Call { plot, frame }, &mut [0; 3])?;
+    }
+    Ok(())
 }
 
 // Plots that are refused, each by frames that are refused too, so that the first in the order is given: no cell, though the bounds meet two by
 // two; two cells off the map. Then frames: two of no cell; a cell off the map, and a row from (0, 0) to one; four cells without (0, 0), the cell
 // east of it, the three beside it in a block of four, and the cell south-west of it; (0, 0) alone, also by bounds that are not all reached.
-pub fn refusals() {
+pub fn refusals(rt: &impl Print) -> io::Result<()> {
     let none = Octagon::new(5, 0, 5, 1, 5, 0, 5, -1);
     let past = Octagon::new(-3, 15998, 16001, 16005, 4, -15995, -15999, -16002);
     let no_row = Octagon::new(-3, 9, 9, 9, 2, 9, 9, 9);
     let off = Octagon::new(2, 16003, 16001, 15999, -2, -16003, -16001, -15999);
     let beside = Octagon::new(0, 2, 2, 3, 1, 0, -1, -1);
-    lengths(none, beside, 4);
-    lengths(none, Octagon::ORIGIN, 4);
-    lengths(past, no_row, 4);
-    lengths(past, beside, 4);
-    lengths(past, Octagon::ORIGIN, 4);
-    lengths(PLOT, no_row, 4);
-    lengths(PLOT, none, 4);
-    lengths(PLOT, off, 4);
-    lengths(PLOT, Octagon::new(0, MAX, 16001, MAX, 0, MAX, 0, MAX), 4);
-    lengths(PLOT, beside, 4);
-    lengths(PLOT, Octagon::new(0, 1, 1, 1, 0, -1, -1, -1), 4);
-    lengths(PLOT, Octagon::new(0, 1, 1, 2, 1, 1, 0, -1), 4);
-    lengths(PLOT, Octagon::new(1, 0, -1, -2, -1, 0, 1, 2), 4);
-    lengths(PLOT, Octagon::ORIGIN, 4);
-    lengths(PLOT, Octagon::new(0, 7, 0, 9, 0, 8, 0, 6), 4);
-    lengths(PLOT, Octagon::new(MAX, 0, MAX, 0, MAX, 0, MAX, 0), 4);
-    lengths(PLOT, Octagon::new(5, 0, 6, 1, 7, 0, 8, 1), 4);
+    let frames = [
+        no_row,
+        none,
+        off,
+        Octagon::new(0, MAX, 16001, MAX, 0, MAX, 0, MAX),
+        beside,
+        Octagon::new(0, 1, 1, 1, 0, -1, -1, -1),
+        Octagon::new(0, 1, 1, 2, 1, 1, 0, -1),
+        Octagon::new(1, 0, -1, -2, -1, 0, 1, 2),
+        Octagon::ORIGIN,
+        Octagon::new(0, 7, 0, 9, 0, 8, 0, 6),
+        Octagon::new(MAX, 0, MAX, 0, MAX, 0, MAX, 0),
+        Octagon::new(5, 0, 6, 1, 7, 0, 8, 1),
+    ];
+    by_each(rt, none, &[beside, Octagon::ORIGIN])?;
+    by_each(rt, past, &[no_row, beside, Octagon::ORIGIN])?;
+    by_each(rt, PLOT, &frames)
 }

@@ -2,9 +2,11 @@
 // the expected output out on its own.
 #![tactic(auto)]
 
-use calls::{mixed, tell};
-use draws::after;
+use answers::mixed;
+use draws::{Drawn, Draws};
+use std::io;
 
+mod answers;
 mod calls;
 mod chosen;
 mod draws;
@@ -16,26 +18,35 @@ const PAIRS: usize = 800;
 
 const SHOWN: usize = 100;
 
-// Draws the pairs, each from three numbers, with up to 24 places, and after each hundred writes a digest of all so far.
-fn drawn() {
+// Draws the pairs, and after each hundred writes a digest of all so far.
+fn drawn(rt: &impl Print) -> io::Result<()> {
+    let mut draws = Draws(1);
     let mut sum = 0;
-    let mut c = 1;
     for k in 0..PAIRS {
-        let a = after(c);
-        let b = after(a);
-        c = after(b);
-        let places = (b / 3721 % 25) as usize;
-        let told = tell(draws::plot(k, a, b), draws::frame(k, c), places, k < SHOWN);
+        let drawn = Drawn::next(k, &mut draws);
+        let mut room = [0; 24];
+        let list = &mut room[..drawn.places()];
+        let told = if k < SHOWN {
+            drawn.call().tell(rt, list)?
+        } else {
+            drawn.call().digest(list)
+        };
         sum = mixed(sum, told);
         if k % 100 == 99 {
-            words::say_digest(k + 1, sum);
+            println!(rt; "digest of {} pairs {sum}", k + 1)?;
         }
     }
+    Ok(())
 }
 
-fn main() {
-    chosen::by_hand();
-    chosen::refusals();
-    drawn();
-    far::far();
+fn all(rt: &impl Print) -> io::Result<()> {
+    chosen::by_hand(rt)?;
+    chosen::refusals(rt)?;
+    drawn(rt)?;
+    far::far(rt)
+}
+
+// Where a line cannot be written, nothing more is.
+fn main(rt: HostRuntime) {
+    let _ = all(&rt);
 }

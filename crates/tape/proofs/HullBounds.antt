@@ -2,7 +2,7 @@
 use mir.Syntax.{Width}
 use mir.Val.{SFits}
 use Rattle.integers.proofs.Minimum.{max_ind, max_left}
-use Rattle.octagon.specs.declared.Octagon.{Octagon}
+use Rattle.octagon.specs.Octagon.{Octagon}
 use Rattle.octagon.specs.Widths.{Held}
 use Rattle.octagon.proofs.Unique.{AtMost}
 use Rattle.tape.specs.Hull.{hull}

@@ -4,7 +4,7 @@ use mathlib.Core.Logic.{inl, inr}
 use lib.IntN.{ℤ, neg_ℤ, ◌+ℤ◌, ◌-ℤ◌}
 use Rattle.integers.specs.Minimum.{max_ℤ}
 use Rattle.integers.proofs.Minimum.{max_ind, max_right}
-use Rattle.octagon.specs.declared.Octagon.{Octagon}
+use Rattle.octagon.specs.Octagon.{Octagon}
 use Rattle.octagon.specs.Cells.{Cells, Either, Some, In, Smallest}
 use Rattle.octagon.proofs.Unique.{AtMost}
 use Rattle.octagon.proofs.Smallest.{at_most_in, some_in, smallest_when}

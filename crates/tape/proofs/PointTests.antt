@@ -1,11 +1,12 @@
 -- What the tests of a point's coordinates say of its cell. Assumes nothing.
-use mathlib.Core.Path.{◌≡◌, sym, ◌∙◌}
+use mathlib.Core.Path.{◌≡◌, refl, sym, ◌∙◌}
 use mathlib.Core.Bool.{true, false, ◌&&◌}
 use mathlib.Core.Logic.{inl, inr, ⊎_elim}
 use native.Mathlib.Omega.{arith}
 use lib.IntN.{ℤ}
-use lib.Ieee.{Float}
+use lib.Ieee.{Float, nan, inf, fin}
 use lib.Ieee.Scale.{finite}
+use Rattle.std.specs.Float.{float_is_finite}
 use Rattle.integers.proofs.Tests.{cases, true_is_not_false, both_true, and_true}
 use Rattle.octagon.specs.Outcome.{accepted, refused, off_map}
 use Rattle.octagon.specs.Cells.{OnMap}
@@ -18,6 +19,13 @@ use Rattle.tape.specs.Cases.{CellOf}
 use Rattle.tape.proofs.Between.{between_exactly}
 use Rattle.tape.proofs.Coordinates.{in_cell_exactly, snap_refused}
 use Rattle.tape.proofs.OnePoint.{snapped_or, unmeasured, outside, point_inside, point_fault}
+
+-- std's test of a finite number
+pub finite_is : (e : Float) → float_is_finite e ≡ finite e
+unfolding float_is_finite
+finite_is nan = refl
+finite_is (inf s) = refl
+finite_is (fin s m x) = refl
 
 -- both coordinates are between the map's edges: the cell is on the map, and it is the point's
 pub tests_on : (p : Place) (x y : ℤ) → within_edges p.east ≡ true → within_edges p.north ≡ true →

@@ -1,16 +1,16 @@
--- The points of a tape: by their number, as `point t k` has them, and from an index on, as a loop takes them. Assumes nothing.
-use mathlib.Core.Path.{◌≡◌, refl, sym, ◌∙◌}
+-- The points of a tape: by their number, as `point t k` has them, and by pairs, as the code takes them. Assumes nothing.
+use mathlib.Core.Path.{◌≡◌, refl, sym, ap, ◌∙◌}
 use mathlib.Core.List.{List, [], ◌∷◌}
-use Prim.Native.Nat.{ℕ, zero, suc, ◌+◌, ◌*◌, ◌/◌, ◌%◌, ◌<◌, ◌≤◌}
+use Prim.Native.Nat.{ℕ, zero, suc, ◌+◌, ◌-◌, ◌*◌, ◌/◌, ◌%◌, ◌<◌, ◌≤◌}
 use native.Mathlib.Omega.{arith}
-use lib.ListN.{length, drop, get_or, drop_of_length-le}
+use lib.ListN.{length, take, drop, get_or}
 use lib.Ieee.{Float}
+use Rattle.std.proofs.lemmas.List.{take_all}
+use Rattle.std.specs.Simd.{first_chunks}
 use borrow.Author.Tests.{ne_eqb}
-use Rattle.octagon.specs.declared.Octagon.{Octagon}
-use Rattle.octagon.specs.Outcome.{accepted, refused}
+use Rattle.octagon.specs.Outcome.{refused, then}
 use Rattle.outline.specs.declared.place.Place.{Place}
-use Rattle.tape.specs.Hull.{hull}
-use Rattle.tape.specs.Enclosing.{no_point, half_point, place_at, points, gathered, point_cell, enclosed_points, enclosed}
+use Rattle.tape.specs.Enclosing.{no_point, half_point, place_at, points, paired, gathered, point_cell, enclosed_points, enclosed}
 use Rattle.tape.specs.Cases.{point}
 
 -- ---- by their number
@@ -35,31 +35,15 @@ points_at (e ∷ []) k d h = absurd (omega arith)
 points_at (e ∷ n ∷ t) zero d h = refl
 points_at (e ∷ n ∷ t) (suc k) d h = points_at t k d (omega arith) ∙ sym (point_next e n t k)
 
--- ---- from an index on
+-- ---- by pairs
 
--- the point at an index, and those after it
-points_from : (t : List Float) (i : ℕ) → i + 1 < length t → points (drop i t) ≡ place_at t i ∷ points (drop (i + 2) t)
-points_from [] i h = absurd (omega arith)
-points_from (e ∷ []) i h = absurd (omega arith)
-points_from (e ∷ n ∷ t) zero h = refl
-points_from (e ∷ n ∷ t) (suc i) h =
-    let next : suc i + 1 ≡ suc (i + 1) = omega arith in
-    let rest : suc i + 2 ≡ suc (i + 2) = omega arith in
-    rw (next, rest) (points_from (n ∷ t) i (omega arith))
-
--- a point that is accepted widens the bounds, and the rest follows
-pub gather_more : (c d : Octagon) (t : List Float) (i : ℕ) → i + 1 < length t → point_cell (place_at t i) ≡ accepted d →
-    gathered c (points (drop i t)) ≡ gathered (hull c d) (points (drop (i + 2) t))
-gather_more c d t i h q = rw (points_from t i h, q)
-
--- a point that is refused decides
-pub gather_refused : (c : Octagon) (t : List Float) (i k : ℕ) → i + 1 < length t → point_cell (place_at t i) ≡ refused k →
-    gathered c (points (drop i t)) ≡ refused k
-gather_refused c t i k h q = rw (points_from t i h, q)
-
--- past the last point the bounds are the answer
-pub gather_end : (c : Octagon) (t : List Float) (i : ℕ) → length t ≤ i → gathered c (points (drop i t)) ≡ accepted c
-gather_end c t i h = rw (drop_of_length-le t h)
+-- the points of a tape are those of its pairs
+pub points_paired : (t : List Float) → points t ≡ paired (first_chunks 2 (length t / 2) t)
+points_paired [] = refl
+points_paired (e ∷ []) = refl
+points_paired (e ∷ n ∷ t) =
+    let h : length (e ∷ n ∷ t) / 2 ≡ suc (length t / 2) = omega arith in
+    rw h (ap (λ l. place_at (e ∷ n ∷ []) 0 ∷ l) (points_paired t))
 
 -- ---- the whole tape
 
@@ -77,10 +61,12 @@ pub enclosed_even : (t : List Float) → ¬ (length t % 2 ≡ 1) → enclosed t 
 unfolding enclosed
 enclosed_even t h = rw (ne_eqb (length t % 2) 1 h)
 
-pub enclosed_first : (c : Octagon) (t : List Float) → 1 < length t → ¬ (length t % 2 ≡ 1) → point_cell (place_at t 0) ≡ accepted c →
-    enclosed t ≡ gathered c (points (drop 2 t))
-enclosed_first c t l h q = enclosed_even t h ∙ rw (points_from t 0 l, q)
+-- and the first pair decides, with the rest as a pattern cuts them off
+first_decides : (ps : List (List Float)) → 1 ≤ length ps →
+    enclosed_points (paired ps) ≡ then (point_cell (place_at (get_or ps 0 []) 0)) (λ c. gathered c (paired (take (length ps - 1) (drop 1 ps))))
+first_decides [] h = absurd (omega (arith, h))
+first_decides (p ∷ ps) h = rw (take_all (length (p ∷ ps) - 1) ps (omega arith))
 
-pub enclosed_refused : (k : ℕ) (t : List Float) → 1 < length t → ¬ (length t % 2 ≡ 1) → point_cell (place_at t 0) ≡ refused k →
-    enclosed t ≡ refused k
-enclosed_refused k t l h q = enclosed_even t h ∙ rw (points_from t 0 l, q)
+pub enclosed_by_pairs : (t : List Float) (ps : List (List Float)) → ps ≡ first_chunks 2 (length t / 2) t → 1 ≤ length ps → ¬ (length t % 2 ≡ 1) →
+    enclosed t ≡ then (point_cell (place_at (get_or ps 0 []) 0)) (λ c. gathered c (paired (take (length ps - 1) (drop 1 ps))))
+enclosed_by_pairs t ps e h o = enclosed_even t o ∙ ap enclosed_points (points_paired t ∙ ap paired (sym e)) ∙ first_decides ps h

@@ -1,7 +1,7 @@
 -- The answers of `enclose`, case by case, in the words of document 02. proofs/Cases.antt proves that they are its answers. Assumes nothing.
 use Rattle.std.specs.Prelude.{◌≡◌, not, ◌⊎◌, List, [], ℕ, ◌*◌, ◌%◌, ◌/◌, ◌<◌, T, ℤ, length, Float}
 use Rattle.std.specs.Float.Ieee.Scale.{finite}
-use Rattle.octagon.specs.declared.Octagon.{Octagon}
+use Rattle.octagon.specs.Octagon.{Octagon}
 use Rattle.octagon.specs.Outcome.{Outcome, accepted, refused, off_map}
 use Rattle.octagon.specs.Cells.{OnMap, Smallest}
 use Rattle.outline.specs.declared.place.Place.{Place}

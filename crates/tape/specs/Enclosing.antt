@@ -1,8 +1,8 @@
 -- What `enclose` answers: definitions that compute. specs/Cases.antt says the same in words, proofs/Cases.antt joins the two.
 -- Assumes nothing.
-use Rattle.std.specs.Prelude.{cond, List, [], ◌∷◌, ℕ, ◌+◌, ◌%◌, eqb, length, get_or, Float}
+use Rattle.std.specs.Prelude.{cond, List, [], ◌∷◌, ℕ, ◌+◌, ◌%◌, eqb, length, get_or, map, Float}
 use Rattle.std.specs.Float.{nan}
-use Rattle.octagon.specs.declared.Octagon.{Octagon}
+use Rattle.octagon.specs.Octagon.{Octagon}
 use Rattle.octagon.specs.Outcome.{Outcome, accepted, refused, then}
 use Rattle.octagon.specs.NormalForm.{placed}
 use Rattle.octagon.specs.OneCell.{one_cell}
@@ -30,6 +30,10 @@ abbrev pub points : List Float → List Place
 points [] = []
 points (e ∷ []) = []
 points (e ∷ n ∷ t) = record { east = e; north = n } ∷ points t
+
+-- the points of pairs of numbers
+abbrev pub paired : List (List Float) → List Place
+paired = map (λ p. place_at p 0)
 
 -- the bounds c, widened by the cell of each point in turn; the first point that is refused decides
 abbrev pub gathered : Octagon → List Place → Outcome Octagon

@@ -1,6 +1,6 @@
 -- The bounds that two octagons reach between them. Assumes nothing.
 use Rattle.integers.specs.Minimum.{max_ℤ}
-use Rattle.octagon.specs.declared.Octagon.{Octagon}
+use Rattle.octagon.specs.Octagon.{Octagon}
 
 -- the octagon that reaches what either reaches, bound by bound
 unfoldable pub hull : Octagon → Octagon → Octagon

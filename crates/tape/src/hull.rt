@@ -5,7 +5,6 @@ ghost use Rattle.octagon.specs.OneCell.{one_cell};
 ghost use Rattle.octagon.specs.Widths.{Held};
 ghost use Rattle.tape.specs.Hull as hulls;
 
-use integers::greater;
 use octagon::Octagon;
 
 // The octagon of the one cell (x, y), where its bounds fit.
@@ -29,14 +28,5 @@ pub fn one_cell(x: i32, y: i32) -> Octagon
 pub fn hull(a: Octagon, b: Octagon) -> Octagon
     ensures { result ≡ hulls.hull a b }
 {
-    Octagon {
-        c0: greater(a.c0, b.c0),
-        c1: greater(a.c1, b.c1),
-        c2: greater(a.c2, b.c2),
-        c3: greater(a.c3, b.c3),
-        c4: greater(a.c4, b.c4),
-        c5: greater(a.c5, b.c5),
-        c6: greater(a.c6, b.c6),
-        c7: greater(a.c7, b.c7),
-    }
+    a.zip_with(b, |p, q| q.max(p))
 }

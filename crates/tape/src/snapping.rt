@@ -2,7 +2,6 @@
 // the one case in which that is not the cell.
 ghost use Rattle.std.specs.Prelude.{◌≡◌, true, ◌+◌, pos, neg_ℤ, ◌≤ℤ◌};
 ghost use Rattle.std.specs.Float.Ieee.{le};
-ghost use Rattle.std.specs.Float.Ieee.Scale.{finite};
 ghost use Rattle.octagon.specs.Outcome.{accepted};
 ghost use Rattle.octagon.specs.Cells.{limit};
 ghost use Rattle.tape.specs.Snapping as snapping;
@@ -14,14 +13,6 @@ const QUARTERS: f64 = 1688849860263936.0;
 
 // Its bits. The next number up, a quarter more, has the next bits.
 const QUARTERS_BITS: i64 = 0x4318_0000_0000_0000;
-
-// Whether a coordinate is neither an infinity nor no number.
-pub fn is_finite(e: f64) -> bool
-    ensures { result ≡ finite e }
-{
-    let infinity = 1.0 / 0.0;
-    (-infinity < e) & (e < infinity)
-}
 
 // Whether the lower edge of the cell n, n / 4 - 1 / 8, is at most e: the edge is exact.
 fn reaches(n: i32, e: f64) -> bool
@@ -43,7 +34,7 @@ fn nearest(e: f64) -> i32
     requires { snapping.within_edges e ≡ true }
     ensures { snapping.Nearest result e }
 {
-    ((f64::to_bits(e + QUARTERS) as i64) - QUARTERS_BITS) as i32
+    ((e + QUARTERS).to_bits() as i64 - QUARTERS_BITS) as i32
 }
 
 // The cell of a coordinate that is in one of the map's cells.

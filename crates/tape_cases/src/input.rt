@@ -1,56 +1,44 @@
-// Standard input: words of eight bytes, the lowest first, and tapes of such words. After its end every byte is 0.
-ghost use Rattle.std.specs.Prelude.{◌≤◌, length};
+// The input: words of eight bytes, the lowest first, and tapes of such words. After its end every byte is 0.
+use std::fmt;
+use std::io::Read;
+use std::num::f64_from_bits_with_nan;
 
-// The descriptor of standard input.
-const STDIN_FILENO: i32 = 0;
+// A word as eight letters.
+#[derive(Clone, Copy)]
+pub struct Name([u8; 8]);
 
-// The next word as eight letters.
-pub fn next_name() -> [u8; 8] {
-    let mut bytes = [0u8; 8];
-    io::read_full(STDIN_FILENO, &mut bytes);
+impl fmt::Display for Name {
+    fn fmt<W: fmt::Write>(&self, f: &mut fmt::Formatter<W>) -> fmt::Result {
+        for letter in self.0 {
+            write!(f, "{}", char::from(letter))?;
+        }
+        Ok(())
+    }
+}
+
+fn word(from: &mut impl Read) -> [u8; 8] {
+    let mut bytes = [0; 8];
+    let _ = from.read_exact(&mut bytes);
     bytes
 }
 
-// A byte as a number.
-fn wide(byte: u8) -> u64 {
-    byte as u64
-}
-
-// The number in eight bytes.
-fn word(b: &[u8; 8]) -> u64 {
-    let low = wide(b[0]) | wide(b[1]) << 8 | wide(b[2]) << 16 | wide(b[3]) << 24;
-    low | wide(b[4]) << 32 | wide(b[5]) << 40 | wide(b[6]) << 48 | wide(b[7]) << 56
+// The next word as eight letters.
+pub fn next_name(from: &mut impl Read) -> Name {
+    Name(word(from))
 }
 
 // The next word as a number.
-pub fn next() -> u64 {
-    word(&next_name())
+pub fn next_number(from: &mut impl Read) -> u64 {
+    u64::from_le_bytes(word(from))
 }
 
-// The number with these bits. Of the many patterns that are no number's, the language reads none: each is made anew.
-fn number(bits: u64) -> f64 {
-    if bits % 0x8000_0000_0000_0000 > 0x7ff0_0000_0000_0000 {
-        return 0.0 / 0.0;
+// Reads the next tape to the start of `room`, and no more of it than there is room for. Of the many patterns that are no number's, the
+// language reads none: each is made anew.
+pub fn next_tape<'a>(from: &mut impl Read, room: &'a mut [f64]) -> &'a [f64] {
+    let len = room.len().min(next_number(from) as usize);
+    let tape = &mut room[..len];
+    for metres in tape.iter_mut() {
+        *metres = f64_from_bits_with_nan(next_number(from));
     }
-    f64::from_bits(bits)
-}
-
-// The lesser of two numbers.
-fn lesser(a: usize, b: usize) -> usize
-    ensures { result ≤ b }
-{
-    if a < b { a } else { b }
-}
-
-// Reads the next tape to the start of `numbers`, and answers its length: no more than there is room for.
-pub fn read_tape(numbers: &mut [f64]) -> usize
-    ensures { result ≤ length numbers.new }
-{
-    let len = lesser(next() as usize, numbers.len());
-    let mut k = 0;
-    while k < len {
-        numbers[k] = number(next());
-        k += 1;
-    }
-    len
+    tape
 }

@@ -5,42 +5,49 @@
 // how many tapes it has, and the tapes; and for each tape how many numbers it has, and their bits.
 #![tactic(auto)]
 
-use input::{next, next_name, read_tape};
-use octagon::Answer;
-
+mod answers;
 mod corners;
-mod digests;
+mod digest;
 mod input;
-mod words;
+
+use answers::Told;
+use corners::handed_back;
+use digest::Digest;
+use std::io;
+use std::io::Read;
 
 // The room for a tape: 4,096 points.
 const ROOM: usize = 8192;
 
-// What `enclose` answers to the next tape.
-fn next_answer(numbers: &mut [f64]) -> Answer {
-    let len = read_tape(numbers);
-    tape::enclose(&numbers[..len])
-}
-
-// Answers the tapes of the next block, the first of them each on a line, and all of them by their digest.
-fn block(numbers: &mut [f64]) {
-    let name = next_name();
-    let shown = next();
-    let count = next();
-    let mut sum = 0;
+// Answers the tapes of the next block, the first of them each on a line, and all of them by their digest, which has each octagon a second
+// time, as its corners give it.
+fn block(rt: &impl Print, from: &mut impl Read, room: &mut [f64]) -> io::Result<()> {
+    let name = input::next_name(from);
+    let shown = input::next_number(from);
+    let count = input::next_number(from);
+    let mut digest = Digest::default();
     for k in 0..count {
-        let answer = next_answer(numbers);
+        let answer = tape::enclose(input::next_tape(from, room));
         if k < shown {
-            words::say_answer(&name, answer);
+            println!(rt; "{name} {}", Told(answer))?;
         }
-        sum = corners::mixed_twice(sum, answer);
+        digest.mix_answer(answer);
+        if let Ok(octagon) = answer {
+            digest.mix_answer(handed_back(octagon));
+        }
     }
-    words::say_digest(&name, sum);
+    println!(rt; "{name} digest {digest}")
 }
 
-fn main() {
-    let mut numbers = [0.0; ROOM];
-    for _ in 0..next() {
-        block(&mut numbers);
+fn all(rt: &impl Print, from: &mut impl Read) -> io::Result<()> {
+    let mut room = [0.0; ROOM];
+    for _ in 0..input::next_number(from) {
+        block(rt, from, &mut room)?;
     }
+    Ok(())
+}
+
+// Where a line cannot be written, nothing more is.
+fn main(rt: HostRuntime) {
+    let _ = all(&rt, &mut rt.stdin());
 }

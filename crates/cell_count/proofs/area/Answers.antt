@@ -11,7 +11,7 @@ unfolding area
 returns c = ap₂ ◌-◌ c.rectangle.ensures c.cuts.ensures
 
 pub overflow_sub-result : goal.overflow_sub-result
-overflow_sub-result c = omega (arith, cuts_most _ c.requires)
+overflow_sub-result c = omega (arith, cuts_most _ c.args.a.is_normal)
 
 pub overflow_cast-result : goal.overflow_cast-result
-overflow_cast-result c = record { fits = omega (arith, rectangle_most _ (lengths _ c.requires)) }
+overflow_cast-result c = record { fits = omega (arith, rectangle_most _ (lengths _ c.args.a.is_normal)) }

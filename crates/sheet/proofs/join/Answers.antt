@@ -1,17 +1,24 @@
 -- `join` meets its contract. Assumes nothing.
 use mathlib.Core.Path.{sym, ◌∙◌}
-use Rattle.sheet.proofs.Checks.{parsed_refused, parsed_sheet}
-use Rattle.sheet.proofs.Joins.{join_first, join_rest}
+use Rattle.std.proofs.lemmas.Result.{err_from_is_err_and}
+use Rattle.sheet.proofs.Joins.{join_first, join_second, join_both}
 use Rattle.sheet.proofs.join.Goals as goal
 
-pub returns-in-Refused-clause-result_value : goal.returns-in-Refused-clause-result_value
-returns-in-Refused-clause-result_value c =
+pub returns-in_err-a-clause-result_value : goal.returns-in_err-a-clause-result_value
+returns-in_err-a-clause-result_value c =
     let a = c.args in
-    join_first a.first.now _ a.second.now _ a.third.now (parsed_refused a.first.now _ (sym c.in-Refused.ensures))
+    let p = err_from_is_err_and c.from_residual.result c.from_residual.ensures.1 in
+    rw (p.1, p.2) (join_first a.first.now _ a.second.now _ a.third.now (sym c.in_err-a.ensures.sheet))
 
-pub returns-in-Trailer-clause-result_value : goal.returns-in-Trailer-clause-result_value
-returns-in-Trailer-clause-result_value c =
+pub returns-in_err-b-clause-result_value : goal.returns-in_err-b-clause-result_value
+returns-in_err-b-clause-result_value c =
     let a = c.args in
-    let t = c.join_second.ensures in
-    let e = join_rest a.first.now _ a.second.now _ a.third.now (parsed_sheet a.first.now _ (sym c.in-Trailer.ensures)) in
+    let p = err_from_is_err_and c.from_residual-in_err-b.result c.from_residual-in_err-b.ensures.1 in
+    rw (p.1, p.2) (join_second a.first.now _ a.second.now _ a.third.now (sym c.in_ok-a.ensures.sheet) (sym c.in_err-b.ensures.sheet))
+
+pub returns-clause-result_value : goal.returns-clause-result_value
+returns-clause-result_value c =
+    let a = c.args in
+    let t = c.join_records.ensures in
+    let e = join_both a.first.now _ a.second.now _ a.third.now (sym c.in_ok-a.ensures.sheet) (sym c.in_ok-b.ensures.sheet) in
     (t.result_value ∙ e.0, t.u_after ∙ e.1)

@@ -1,13 +1,7 @@
--- The loop of `gather`: the points that are left decide. The measure is what is left of the tape. Assumes nothing.
-use mathlib.Core.Path.{◌≡◌}
-use Prim.Native.Nat.{◌-◌, ◌%◌, ◌≤◌}
-use lib.ListN.{length, drop}
-use Rattle.tape.specs.Enclosing.{points, gathered}
+-- The loop of `gather`: the points that are left decide. Assumes nothing.
+use Rattle.std.proofs.Common.{◌≡◌, drop}
+use Rattle.tape.specs.Enclosing.{gathered, paired}
 use Rattle.tape.proofs.gather.Given as goal
 
-abbrev pub invariant-loop-at : goal.invariant-loop-at
-invariant-loop-at l =
-    (l.at ≤ length l.tape) × ((length l.tape - l.at) % 2 ≡ 0) × (gathered l.initial.all (points (drop l.from l.tape)) ≡ gathered l.all (points (drop l.at l.tape)))
-
-abbrev pub decreases-loop-at : goal.decreases-loop-at
-decreases-loop-at l = length l.tape - l.at
+abbrev pub invariant-loop-pair : goal.invariant-loop-pair
+invariant-loop-pair l = gathered l.initial.all (paired l.pairs) ≡ gathered l.all (paired (drop l.pair-index l.pairs))

@@ -1,14 +1,7 @@
--- `give` meets its contract: the two cases of an answer. Assumes nothing.
-use mathlib.Core.Path.{ap}
-use Rattle.octagon.specs.Answers.{outcome}
-use Rattle.koxirmeta_c.proofs.Fitting.{gives, keeps, wrong}
+-- `give` meets its contract. Assumes nothing.
+use Rattle.koxirmeta_c.specs.Calls.{bounds_of}
+use Rattle.koxirmeta_c.proofs.Mapped.{hands_mapped}
 use Rattle.koxirmeta_c.proofs.octagons.give.Goals as goal
 
-pub returns-in-Octagon : goal.returns-in-Octagon
-returns-in-Octagon c = gives c.if-fits-out.true (ap outcome c.in-Octagon.is) c.put_bounds.ensures
-
-pub returns-in-Refused : goal.returns-in-Refused
-returns-in-Refused c = keeps c.if-fits-out.true (ap outcome c.in-Refused.is)
-
 pub returns : goal.returns
-returns c = wrong _ c.if-fits-out.false
+returns c = hands_mapped bounds_of _ c.args.answer c.map.result c.map.ensures.cases c.give_array.ensures

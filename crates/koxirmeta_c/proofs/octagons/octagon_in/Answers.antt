@@ -1,15 +1,24 @@
 -- `octagon_in` meets its contract: eight reads, or none. Assumes nothing.
 use native.Mathlib.Omega.{arith}
 use borrow.Author.Tests.{eq-eqb, ne_eqb}
+use lib.ListN.{length}
 use mir.Syntax.{w32}
 use Rattle.octagon.specs.Widths.{Held}
 use Rattle.octagon.proofs.Fields.{back_is}
 use Rattle.koxirmeta_c.specs.Calls.{bounded, octagon_in}
 use Rattle.koxirmeta_c.proofs.octagons.octagon_in.Goals as goal
 
-pub returns-then-s-eq8 : goal.returns-then-s-eq8
+pub returns-in_default : goal.returns-in_default
 unfolding octagon_in
-returns-then-s-eq8 c =
+returns-in_default c = rw (ne_eqb (length c.args.s.now) 8 (λ e. omega arith))
+
+pub returns-in_default-2 : goal.returns-in_default-2
+unfolding octagon_in
+returns-in_default-2 c = rw (ne_eqb (length c.args.s.now) 8 (λ e. omega arith))
+
+pub returns : goal.returns
+unfolding octagon_in
+returns c =
     let o = bounded c.args.s.now in
     let held : Held w32 o = record {
       held0 = record { sfits = omega arith };
@@ -21,8 +30,4 @@ returns-then-s-eq8 c =
       held6 = record { sfits = omega arith };
       held7 = record { sfits = omega arith };
     } in
-    rw (eq-eqb _ 8 c.if-s-eq8.true) (back_is w32 o held)
-
-pub returns : goal.returns
-unfolding octagon_in
-returns c = rw (ne_eqb _ 8 c.if-s-eq8.false)
+    rw (eq-eqb (length c.args.s.now) 8 (omega arith)) (back_is w32 o held)

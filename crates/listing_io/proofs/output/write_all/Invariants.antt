@@ -1,9 +1,11 @@
--- `write_all`: what was written lies within the text, and what is left of it, with the tries, falls. Assumes nothing.
-use Rattle.std.proofs.Common.{length, ◌-◌, ◌+◌, ◌≤◌}
+-- `write_all`: what is gone from the text was written, and what is left of it, with the tries, falls. Assumes nothing.
+use Rattle.std.proofs.Common.{◌≡◌, List, ℕ, length, ◌++◌, ◌+◌}
+use Rattle.std.specs.Io.KnownBytes.{Appends}
 use Rattle.listing_io.proofs.output.write_all.Given as goal
 
-abbrev pub invariant-loop-done : goal.invariant-loop-done
-invariant-loop-done g l = l.done ≤ length l.text
+abbrev pub invariant-loop-rest : goal.invariant-loop-rest
+invariant-loop-rest g l =
+    (written : List ℕ) × (l.initial.rest ≡ written ++ l.rest) × Appends (g.W.Write.contents l.initial.to) (g.W.Write.contents l.to) written
 
-abbrev pub decreases-loop-done : goal.decreases-loop-done
-decreases-loop-done g l = length l.text - l.done + l.tries
+abbrev pub decreases-loop-rest : goal.decreases-loop-rest
+decreases-loop-rest g l = length l.rest + l.tries.left

@@ -1,6 +1,6 @@
 -- `draw` meets its contract: four vertices, and the test's two answers. Assumes nothing.
 use mathlib.Core.Path.{◌≡◌, ◌∙◌, ap}
-use mathlib.Core.Bool.{Bool}
+use mathlib.Core.Bool.{Bool, true, false}
 use Prim.Native.Nat.{ℕ, ◌≤◌}
 use native.Mathlib.Omega.{arith}
 use lib.IntN.{ℤ, pos, neg_ℤ, ◌-ℤ◌, +ℤ_idl}
@@ -9,7 +9,7 @@ use mir.Val.{to_z, of_z, SFits}
 use mir.Facts.{to_z-of_z}
 use borrow.Author.Rules.{rules}
 use Rattle.integers.specs.Range.{Room}
-use Rattle.integers.proofs.Range.{told, room_fits, room_add, room_neg, room_back, room_pos}
+use Rattle.integers.proofs.Range.{room_fits, room_add, room_neg, room_back, room_pos}
 use Rattle.octagon.specs.NormalForm.{are_within_limit, is_on_map, placed}
 use Rattle.outline.specs.declared.Outline.{Outline}
 use Rattle.outline.specs.declared.walk.Cell.{Cell}
@@ -81,23 +81,26 @@ pub bounds_at-requires : goal.bounds_at-requires
 bounds_at-requires c =
     let h = held (goal.at.bounds_at-requires c).Start in
     let t = tested c.args.o h c.vertex-v1.ensures c.vertex-v3.ensures c.vertex-v5.ensures c.vertex-v7.ensures c.on_map.ensures in
+    let g : is_on_map (drawn c.args.o) ≡ true = search (rules, t) in
     rw (same_drawn c.args.o c.vertex-v1.ensures c.vertex-v3.ensures c.vertex-v5.ensures c.vertex-v7.ensures)
-    (c.requires (told c.if-on_map.true t))
-
-pub returns-then-on_map : goal.returns-then-on_map
-unfolding placed
-returns-then-on_map c =
-    let h = held (goal.at.returns-then-on_map c).Start in
-    let t = tested c.args.o h c.vertex-v1.ensures c.vertex-v3.ensures c.vertex-v5.ensures c.vertex-v7.ensures c.on_map.ensures in
-    rw (
-      told c.if-on_map.true t,
-      c.bounds_at.ensures,
-      same_drawn c.args.o c.vertex-v1.ensures c.vertex-v3.ensures c.vertex-v5.ensures c.vertex-v7.ensures,
-    )
+    (c.requires g)
 
 pub returns : goal.returns
 unfolding placed
 returns c =
     let h = held (goal.at.returns c).Start in
     let t = tested c.args.o h c.vertex-v1.ensures c.vertex-v3.ensures c.vertex-v5.ensures c.vertex-v7.ensures c.on_map.ensures in
-    rw (told c.if-on_map.false t)
+    let g : is_on_map (drawn c.args.o) ≡ true = search (rules, t) in
+    rw (
+      g,
+      c.bounds_at.ensures,
+      same_drawn c.args.o c.vertex-v1.ensures c.vertex-v3.ensures c.vertex-v5.ensures c.vertex-v7.ensures,
+    )
+
+pub returns-then-not-on_map : goal.returns-then-not-on_map
+unfolding placed
+returns-then-not-on_map c =
+    let h = held (goal.at.returns-then-not-on_map c).Start in
+    let t = tested c.args.o h c.vertex-v1.ensures c.vertex-v3.ensures c.vertex-v5.ensures c.vertex-v7.ensures c.on_map.ensures in
+    let f : is_on_map (drawn c.args.o) ≡ false = search (rules, t) in
+    rw f

@@ -7,16 +7,17 @@ use Rattle.integers.proofs.Range.{signs}
 use Rattle.octagon.specs.NormalForm.{sides}
 use Rattle.octagon.specs.Widths.{Held}
 use Rattle.octagon.proofs.Fields.{back, back_is}
+use Rattle.outline.proofs.Lengths.{accepted_sized}
 use Rattle.outline.specs.Outlining.{Sized, outline_of}
 use Rattle.outline.proofs.sides.outline_of.Goals.{Start}
 use Rattle.outline.proofs.sides.outline_of.Goals as goal
 
-held : (c : Start) → Held w32 c.args.a
+held : (c : Start) → Held w32 c.args.a.bounds
 held c = search signs
 
 -- the bounds as they are read back
-sized : (c : Start) → Sized (back w32 c.args.a)
-sized c = rw (back_is w32 c.args.a (held c)) c.requires
+sized : (c : Start) → Sized (back w32 c.args.a.bounds)
+sized c = rw (back_is w32 c.args.a.bounds (held c)) (accepted_sized c.args.a.bounds c.args.a.bounds c.args.a.is_normal)
 
 pub overflow_sub-result-2 : goal.overflow_sub-result-2
 overflow_sub-result-2 c = rw +ℤ_idl (sized (goal.at.overflow_sub-result-2 c).Start).start_j
@@ -74,4 +75,4 @@ returns c =
       c.even_side-4.ensures,
       c.odd_side-4.ensures,
     )
-    (ap outline_of (back_is w32 s.args.a (held s)))
+    (ap outline_of (back_is w32 s.args.a.bounds (held s)))

@@ -1,15 +1,16 @@
 -- `put_all` meets its contract: the heading, the rows and the last line. Assumes nothing.
 use mathlib.Core.Path.{◌≡◌}
 use mathlib.Core.List.{List, ◌++◌}
-use Prim.Native.Nat.{ℕ, ◌≤◌}
-use native.Mathlib.Omega.{arith}
+use Prim.Native.Nat.{ℕ}
 use lib.ListN.{length}
 use Rattle.octagon.specs.Outcome.{accepted}
 use Rattle.sheet.specs.declared.Record.{Record}
 use Rattle.sheet.specs.Checking.{checked, plots}
-use Rattle.report.specs.Lines.{Put, heading_line, last_line}
+use Rattle.report.specs.declared.page.Page.{Page}
+use Rattle.report.specs.Lines.{heading_line, last_line}
 use Rattle.report.specs.Listing.{rows_of, total_cells, full}
-use Rattle.report.proofs.Writing.{ToPut, to_put_parts, to_put_more, to_put_room}
+use Rattle.report.specs.Pages.{HasRoom, Written}
+use Rattle.report.proofs.Pages.{ToWrite, to_write_all, to_write_more, to_write_room}
 use Rattle.report.proofs.Plots.{plots_counted}
 use Rattle.report.proofs.rows.put_all.Goals as goal
 
@@ -17,39 +18,38 @@ parts : (rs : List Record) (c : ℕ) → length rs ≡ c → full rs ≡ heading
 unfolding full
 parts rs c e = rw e
 
--- what is still to be put before the heading, after it, and after the rows
-to_put0 : (s : List ℕ) (len c : ℕ) (t : List ℕ) → checked s len ≡ accepted c → length (full (plots s len)) ≤ length t →
-    let rs = plots s len in ToPut t 0 (full rs) t 0 (heading_line ++ (rows_of rs ++ last_line c (total_cells rs)))
-to_put0 s len c t e h = to_put_parts t 0 (full (plots s len)) _ (parts (plots s len) c (plots_counted s len c e)) (omega (arith, h))
+-- what is left before the heading, after it, and after the rows
+module _ (p : Page) (s : List ℕ) (len c : ℕ) (e : checked s len ≡ accepted c) (f : HasRoom p (full (plots s len))) where
+  abbrev rs : List Record
+  rs = plots s len
 
-to_put1 : (s : List ℕ) (len c : ℕ) (t : List ℕ) {u : List ℕ} {m : ℕ} → checked s len ≡ accepted c → length (full (plots s len)) ≤ length t →
-    Put t 0 heading_line u m → let rs = plots s len in ToPut t 0 (full rs) u m (rows_of rs ++ last_line c (total_cells rs))
-to_put1 s len c t e h p = to_put_more heading_line _ (to_put0 s len c t e h) p
+  left0 : ToWrite p (full rs) p (heading_line ++ (rows_of rs ++ last_line c (total_cells rs)))
+  left0 = to_write_all p (full rs) _ (parts rs c (plots_counted s len c e)) f
 
-to_put2 : (s : List ℕ) (len c : ℕ) (t : List ℕ) {u v : List ℕ} {m next n : ℕ} → checked s len ≡ accepted c → length (full (plots s len)) ≤ length t →
-    Put t 0 heading_line u m → Put u m (rows_of (plots s len)) v next → n ≡ total_cells (plots s len) →
-    ToPut t 0 (full (plots s len)) v next (last_line c n)
-to_put2 s len c t e h p q f = rw f (to_put_more (rows_of (plots s len)) _ (to_put1 s len c t e h p) q)
+  left1 : {q : Page} → Written p heading_line q → ToWrite p (full rs) q (rows_of rs ++ last_line c (total_cells rs))
+  left1 a = to_write_more heading_line _ left0 a
 
-pub put_heading-first-requires : goal.put_heading-first-requires
-put_heading-first-requires c =
+  left2 : {q r : Page} {n : ℕ} → Written p heading_line q → Written q (rows_of rs) r → n ≡ total_cells rs → ToWrite p (full rs) r (last_line c n)
+  left2 a b t = rw t (to_write_more (rows_of rs) _ (left1 a) b)
+
+pub put_heading-requires : goal.put_heading-requires
+put_heading-requires c =
     let a = c.args in
-    to_put_room heading_line _ (to_put0 a.sheet.now a.len a.c a.text.now c.requires.len_value c.requires.len_in_bounds)
+    to_write_room heading_line _ (left0 a.page.now a.sheet.now a.len a.c c.requires.len_value c.requires.len_in_bounds)
 
-pub put_rows-rows-requires : goal.put_rows-rows-requires
-put_rows-rows-requires c =
+pub put_rows-cells-requires-clause-len_in_bounds : goal.put_rows-cells-requires-clause-len_in_bounds
+put_rows-cells-requires-clause-len_in_bounds c =
     let a = c.args in
-    let l = to_put1 a.sheet.now a.len a.c a.text.now c.requires.len_value c.requires.len_in_bounds c.put_heading-first.ensures in
-    record { len_value = c.requires.len_value; len_in_bounds = to_put_room (rows_of (plots a.sheet.now a.len)) _ l }
+    to_write_room (rows_of (plots a.sheet.now a.len)) _ (left1 a.page.now a.sheet.now a.len a.c c.requires.len_value c.requires.len_in_bounds c.put_heading.ensures)
 
 pub put_last-requires : goal.put_last-requires
 put_last-requires c =
     let a = c.args in
-    let r = c.put_rows-rows.ensures in
-    (to_put2 a.sheet.now a.len a.c a.text.now c.requires.len_value c.requires.len_in_bounds c.put_heading-first.ensures r.put r.cells_value).fits
+    let r = c.put_rows-cells.ensures in
+    (left2 a.page.now a.sheet.now a.len a.c c.requires.len_value c.requires.len_in_bounds c.put_heading.ensures r.written r.cells_value).fits
 
 pub returns : goal.returns
 returns c =
     let a = c.args in
-    let r = c.put_rows-rows.ensures in
-    (to_put2 a.sheet.now a.len a.c a.text.now c.requires.len_value c.requires.len_in_bounds c.put_heading-first.ensures r.put r.cells_value).rest c.put_last.ensures
+    let r = c.put_rows-cells.ensures in
+    (left2 a.page.now a.sheet.now a.len a.c c.requires.len_value c.requires.len_in_bounds c.put_heading.ensures r.written r.cells_value).rest c.put_last.ensures

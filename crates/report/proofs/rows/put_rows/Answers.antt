@@ -9,7 +9,7 @@ use Rattle.octagon.proofs.Outcomes.{accepted_same, accepted_not_refused}
 use Rattle.sheet.specs.declared.Record.{Record}
 use Rattle.sheet.specs.Checking.{checked, plots, read}
 use Rattle.sheet.proofs.ReadCases.{read_checked}
-use Rattle.report.proofs.Writing.{put_nothing, to_put_all}
+use Rattle.report.proofs.Pages.{written_nothing}
 use Rattle.report.proofs.Plots.{plot, plots_counted, plot_fetched, total_cells_most, row_room, row_more, total_cells_more, rest_end, total_cells_end}
 use Rattle.report.proofs.rows.put_rows.Goals as goal
 
@@ -22,29 +22,26 @@ is_plot : (s : List ℕ) (len c k : ℕ) {r : Record} → checked s len ≡ acce
     (k < length (plots s len)) × (r ≡ plot (plots s len) k)
 is_plot s len c k e h q = (omega (arith, plots_counted s len c e), accepted_same (q ∙ read_is s len c k e h))
 
-pub loop-k-init : goal.loop-k-init
-loop-k-init c = let a = c.args in (omega arith, to_put_all a.text.now a.at _ c.requires.len_in_bounds, omega arith)
-
 pub returns-in_default : goal.returns-in_default
 returns-in_default c =
     let a = c.args in
     absurd (accepted_not_refused (sym (read_is a.sheet.now a.len a.c c.loop-k.k c.requires.len_value c.loop-k-test.true) ∙ sym c.in_default.ensures))
 
-pub put_row-next-requires : goal.put_row-next-requires
-put_row-next-requires c =
+pub put_row-requires : goal.put_row-requires
+put_row-requires c =
     let a = c.args in
-    let p = is_plot a.sheet.now a.len a.c c.loop-k.k c.requires.len_value c.loop-k-test.true c.in-Record.ensures in
-    row_room (plots a.sheet.now a.len) c.loop-k.k p.0 _ p.1 _ c.cells-n.ensures c.loop-k.invariant.1
+    let p = is_plot a.sheet.now a.len a.c c.loop-k.k c.requires.len_value c.loop-k-test.true c.in-Ok.ensures in
+    row_room (plots a.sheet.now a.len) c.loop-k.k p.0 _ p.1 _ c.cells-n.ensures c.loop-k.invariant.0
 
 pub overflow_add-sum : goal.overflow_add-sum
 overflow_add-sum c =
     let a = c.args in
     let rs = plots a.sheet.now a.len in
-    let p = is_plot a.sheet.now a.len a.c c.loop-k.k c.requires.len_value c.loop-k-test.true c.in-Record.ensures in
+    let p = is_plot a.sheet.now a.len a.c c.loop-k.k c.requires.len_value c.loop-k-test.true c.in-Ok.ensures in
     record {
       fits = omega (
         arith,
-        c.loop-k.invariant.2,
+        c.loop-k.invariant.1,
         total_cells_more rs c.loop-k.k p.0 _ p.1 _ c.cells-n.ensures,
         total_cells_most rs,
         plots_counted a.sheet.now a.len a.c c.requires.len_value,
@@ -56,10 +53,9 @@ pub loop-k-preserved : goal.loop-k-preserved
 loop-k-preserved c =
     let a = c.args in
     let rs = plots a.sheet.now a.len in
-    let p = is_plot a.sheet.now a.len a.c c.loop-k.k c.requires.len_value c.loop-k-test.true c.in-Record.ensures in (
-      omega (arith, c.loop-k-test.true),
-      row_more rs c.loop-k.k p.0 _ p.1 _ c.cells-n.ensures c.loop-k.invariant.1 c.put_row-next.ensures,
-      omega (arith, c.loop-k.invariant.2, total_cells_more rs c.loop-k.k p.0 _ p.1 _ c.cells-n.ensures),
+    let p = is_plot a.sheet.now a.len a.c c.loop-k.k c.requires.len_value c.loop-k-test.true c.in-Ok.ensures in (
+      row_more rs c.loop-k.k p.0 _ p.1 _ c.cells-n.ensures c.loop-k.invariant.0 c.put_row.ensures,
+      omega (arith, c.loop-k.invariant.1, total_cells_more rs c.loop-k.k p.0 _ p.1 _ c.cells-n.ensures),
     )
 
 pub returns : goal.returns
@@ -69,6 +65,6 @@ returns c =
     let l = c.loop-k in
     let h : length rs ≤ l.k = omega (arith, plots_counted a.sheet.now a.len a.c c.requires.len_value, c.loop-k-test.false) in
     record {
-      put = l.invariant.1.rest (rw (rest_end rs l.k h) (put_nothing l.text l.next (omega (arith, l.invariant.1.fits))));
-      cells_value = omega (arith, l.invariant.2, total_cells_end rs l.k h);
+      written = l.invariant.0.rest (rw (rest_end rs l.k h) (written_nothing l.page (omega (arith, l.invariant.0.fits))));
+      cells_value = omega (arith, l.invariant.1, total_cells_end rs l.k h);
     }

@@ -1,16 +1,13 @@
--- The loop of `put_rows`: the rows from the k-th on are left, and their cells. The measure is how many. Assumes nothing.
+-- The loop of `put_rows`: the rows from the k-th on are left to write, and their cells. Assumes nothing.
 use mathlib.Core.Path.{◌≡◌}
-use Prim.Native.Nat.{◌+◌, ◌-◌, ◌≤◌}
+use Prim.Native.Nat.{◌+◌}
 use lib.ListN.{drop}
 use Rattle.sheet.specs.Checking.{plots}
 use Rattle.report.specs.Listing.{rows_of, total_cells}
-use Rattle.report.proofs.Writing.{ToPut}
+use Rattle.report.proofs.Pages.{ToWrite}
 use Rattle.report.proofs.Plots.{rest}
 use Rattle.report.proofs.rows.put_rows.Given as goal
 
 abbrev pub invariant-loop-k : goal.invariant-loop-k
 invariant-loop-k l =
-    (l.k ≤ l.c) × ToPut l.initial.text l.at (rows_of (plots l.sheet l.len)) l.text l.next (rest (plots l.sheet l.len) l.k) × (l.sum + total_cells (drop l.k (plots l.sheet l.len)) ≡ total_cells (plots l.sheet l.len))
-
-abbrev pub decreases-loop-k : goal.decreases-loop-k
-decreases-loop-k l = l.c - l.k
+    ToWrite l.initial.page (rows_of (plots l.sheet l.len)) l.page (rest (plots l.sheet l.len) l.k) × (l.sum + total_cells (drop l.k (plots l.sheet l.len)) ≡ total_cells (plots l.sheet l.len))

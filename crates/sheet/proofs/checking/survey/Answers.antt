@@ -1,26 +1,33 @@
 -- `survey` meets its contract: the record that is next decides, or those that are left do. Assumes nothing.
-use mathlib.Core.Path.{sym, ap, ◌∙◌}
+use mathlib.Core.Path.{◌≡◌, sym, ap, ◌∙◌}
+use Prim.Native.Nat.{◌+◌, ◌-◌, ◌*◌}
 use native.Mathlib.Omega.{arith}
-use Rattle.records.proofs.Rows.{mul_pred}
-use Rattle.sheet.specs.Answers.{number_outcome}
+use Rattle.std.proofs.lemmas.Result.{err_from_is_err_and}
+use Rattle.records.proofs.Rows.{mul_more}
+use Rattle.sheet.specs.Checking.{judged}
 use Rattle.sheet.proofs.Surveys.{survey_refused, survey_more, survey_end}
 use Rattle.sheet.proofs.checking.survey.Goals as goal
 
-pub returns-in-Refused : goal.returns-in-Refused
-returns-in-Refused c =
-    let l = c.loop-left in
-    let e = sym c.judge.ensures ∙ ap number_outcome c.in-Refused.is in
-    sym (l.invariant.1 ∙ survey_refused _ l.before _ _ l.p l.left _ c.loop-left-test.true e)
-
-pub loop-left-preserved : goal.loop-left-preserved
-loop-left-preserved c =
-    let l = c.loop-left in
+pub returns-in_err-before : goal.returns-in_err-before
+returns-in_err-before c =
+    let l = c.loop-k in
     let a = c.args in
-    let e = sym c.judge.ensures ∙ ap number_outcome c.in-Number.is in
-    (omega (arith, mul_pred a.each l.left c.loop-left-test.true), l.invariant.1 ∙ survey_more a.z l.before a.each a.s.now l.p l.left _ c.loop-left-test.true e)
+    let x = a.x in
+    let p = err_from_is_err_and c.from_residual.result c.from_residual.ensures.1 in rw (p.1, p.2) (sym (l.invariant ∙ survey_refused tt l.before x.each.bytes a.s.now (x.at + x.each.bytes * l.k) (x.count - l.k) _ (omega arith) (ap (judged l.before) (sym c.record.ensures) ∙ sym c.in_err-before.ensures)))
+
+pub loop-k-preserved : goal.loop-k-preserved
+loop-k-preserved c =
+    let l = c.loop-k in
+    let a = c.args in
+    let x = a.x in
+    let next : x.at + x.each.bytes * (l.k + 1) ≡ x.at + x.each.bytes * l.k + x.each.bytes = omega (arith, mul_more x.each.bytes l.k) in
+    let fewer : x.count - (l.k + 1) ≡ x.count - l.k - 1 = omega arith in
+    rw (next, fewer)
+    (l.invariant ∙ survey_more tt l.before x.each.bytes a.s.now (x.at + x.each.bytes * l.k) (x.count - l.k) _ (omega arith) (ap (judged l.before) (sym c.record.ensures) ∙ sym c.in_ok-before.ensures))
 
 pub returns : goal.returns
 returns c =
-    let l = c.loop-left in
+    let l = c.loop-k in
     let a = c.args in
-    sym (l.invariant.1 ∙ survey_end a.z l.before a.each a.s.now l.p l.left c.loop-left-test.false)
+    let x = a.x in
+    sym (l.invariant ∙ survey_end tt l.before x.each.bytes a.s.now (x.at + x.each.bytes * l.k) (x.count - l.k) (omega arith))

@@ -1,14 +1,10 @@
 -- `survey` meets its contract. The invariant: the records that are left decide. Assumes nothing.
 use mathlib.Core.Path.{◌≡◌}
-use Prim.Native.Nat.{◌+◌, ◌*◌, ◌≤◌}
-use lib.ListN.{length}
+use Prim.Native.Nat.{◌+◌, ◌-◌, ◌*◌}
 use Rattle.sheet.specs.Sheets.{plots_from}
-use Rattle.sheet.specs.Checking.{surveyed}
+use Rattle.sheet.specs.Rows.{plots_in}
+use Rattle.sheet.specs.Checking.{surveyed, all_judged}
 use Rattle.sheet.proofs.checking.survey.Given as goal
 
-abbrev pub invariant-loop-left : goal.invariant-loop-left
-invariant-loop-left l =
-    (l.p + l.each * l.left ≤ length l.s) × (surveyed l.z 0 (plots_from l.each l.s l.first l.z.count) ≡ surveyed l.z l.before (plots_from l.each l.s l.p l.left))
-
-abbrev pub decreases-loop-left : goal.decreases-loop-left
-decreases-loop-left l = l.left
+abbrev pub invariant-loop-k : goal.invariant-loop-k
+invariant-loop-k l = all_judged (plots_in l.s l.x) ≡ surveyed tt l.before (plots_from l.x.each.bytes l.s (l.x.at + l.x.each.bytes * l.k) (l.x.count - l.k))

@@ -10,25 +10,25 @@ use Rattle.sheet.proofs.encoding.put_record.Goals as goal
 
 pub to_twos-requires : goal.to_twos-requires
 to_twos-requires c =
-    let n = narrow_fields c.args.each 1 in
-    let f = c.requires.2.fits_i in
-    rw (c.layout_of-widths.ensures, narrow_kept _ _ n f) (n, f)
+    let n = narrow_fields c.args.each.bytes 1 in
+    let f = c.requires.1.fits_i in
+    rw (c.widths-widths.ensures, narrow_kept _ _ n f) (n, f)
 
 pub to_twos-requires-2 : goal.to_twos-requires-2
 to_twos-requires-2 c =
-    let n = narrow_fields c.args.each 2 in
-    let f = c.requires.2.fits_j in
-    rw (c.layout_of-widths.ensures, narrow_kept _ _ n f) (n, f)
+    let n = narrow_fields c.args.each.bytes 2 in
+    let f = c.requires.1.fits_j in
+    rw (c.widths-widths.ensures, narrow_kept _ _ n f) (n, f)
 
-pub pack-requires-clause-widths_in_bounds : goal.pack-requires-clause-widths_in_bounds
-pack-requires-clause-widths_in_bounds c = rw c.layout_of-widths.ensures (omega (arith, within_length c.args.each, c.requires.0))
+pub pack-requires : goal.pack-requires
+pack-requires c = (omega arith, (omega arith, rw c.widths-widths.ensures (omega (arith, within_length c.args.each.bytes, c.requires.0))))
 
 pub returns : goal.returns
 returns c =
     let r = c.args.r in
-    let L = c.args.each in
-    let e = c.layout_of-widths.ensures in
+    let L = c.args.each.bytes in
+    let e = c.widths-widths.ensures in
     (rw e at c.pack.ensures)
     ∙ ap (splice _ _) (written_record _ r _ _
-    ((rw e at c.to_twos.ensures) ∙ ap (twos _) (narrow_kept _ _ (narrow_fields L 1) c.requires.2.fits_i))
-    ((rw e at c.to_twos-2.ensures) ∙ ap (twos _) (narrow_kept _ _ (narrow_fields L 2) c.requires.2.fits_j)))
+    ((rw e at c.to_twos.ensures) ∙ ap (twos _) (narrow_kept _ _ (narrow_fields L 1) c.requires.1.fits_i))
+    ((rw e at c.to_twos-2.ensures) ∙ ap (twos _) (narrow_kept _ _ (narrow_fields L 2) c.requires.1.fits_j)))

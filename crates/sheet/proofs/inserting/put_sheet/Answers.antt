@@ -19,12 +19,12 @@ put_record-requires c = search (rules, record_is_length)
 pub returns : goal.returns
 returns c =
     let a = c.args in
-    let n = c.rank_of-k.result in
-    let h = c.rank_of-k.ensures.1 in
-    let low = plots_from a.each a.s.now a.at n in
-    let high = plots_from a.each a.s.now (a.at + a.each * n) (a.count - n) in
-    let u = length_plots a.each a.s.now (a.at + a.each * n) (a.count - n) in
+    let x = a.x in
+    let n = a.k in
+    let low = plots_from x.each.bytes a.s.now x.at n in
+    let high = plots_from x.each.bytes a.s.now (x.at + x.each.bytes * n) (x.count - n) in
+    let u = length_plots x.each.bytes a.s.now (x.at + x.each.bytes * n) (x.count - n) in
     c.put_trailer.ensures
     ∙ rw (c.put_record.ensures, c.make_room.ensures)
-    (written_parts record_length record_is_length a.s.now a.at low a.r high n (a.count + 1) (length_plots a.each a.s.now a.at n) (omega arith) c.requires.record_length.1
-    ∙ ap (λ (rs : List Record). splice a.s.now a.at (records_bytes record_length rs)) (put_among a.each a.s.now a.at a.count n a.r c.rank_of-k.ensures.0 h))
+    (written_parts record_length record_is_length a.s.now x.at low a.r high n (x.count + 1) (length_plots x.each.bytes a.s.now x.at n) (omega arith) c.requires.record_length
+    ∙ ap (λ (rs : List Record). splice a.s.now x.at (records_bytes record_length rs)) (put_among x.each.bytes a.s.now x.at x.count n a.r c.requires.place.0 c.requires.place.1))

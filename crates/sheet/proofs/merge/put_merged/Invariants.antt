@@ -6,13 +6,13 @@ use Rattle.records.specs.Parts.{splice}
 use Rattle.sheet.specs.Layout.{record_length}
 use Rattle.sheet.specs.Merging.{merged}
 use Rattle.sheet.specs.Sheets.{rows_bytes}
-use Rattle.sheet.specs.Rows.{plots_in, RowsIn}
+use Rattle.sheet.specs.Stored.{plots_of}
 use Rattle.sheet.proofs.merge.put_merged.Given as goal
 
 abbrev pub invariant-loop-x : goal.invariant-loop-x
 invariant-loop-x l =
-    RowsIn l.s l.x × RowsIn l.t l.y × (length l.u ≡ length l.initial.u) × (l.o + record_length * length (merged (plots_in l.s l.x) (plots_in l.t l.y)) ≤ length l.initial.u)
-    × (splice l.u l.o (rows_bytes record_length (merged (plots_in l.s l.x) (plots_in l.t l.y))) ≡ splice l.initial.u l.to (rows_bytes record_length (merged (plots_in l.s l.initial.x) (plots_in l.t l.initial.y))))
+    (length l.u ≡ length l.initial.u) × (l.o + record_length * length (merged (plots_of l.x) (plots_of l.y)) ≤ length l.initial.u)
+    × (splice l.u l.o (rows_bytes record_length (merged (plots_of l.x) (plots_of l.y))) ≡ splice l.initial.u l.to (rows_bytes record_length (merged (plots_of l.initial.x) (plots_of l.initial.y))))
 
 abbrev pub decreases-loop-x : goal.decreases-loop-x
-decreases-loop-x l = l.x.count + l.y.count
+decreases-loop-x l = l.x.rows.count + l.y.rows.count

@@ -3,13 +3,13 @@ use mathlib.Core.Path.{◌≡◌}
 use Prim.Native.Nat.{◌+◌}
 use lib.ListN.{length}
 use Rattle.sheet.specs.Merging.{conflict, merged}
-use Rattle.sheet.specs.Rows.{plots_in, RowsIn}
+use Rattle.sheet.specs.Stored.{plots_of}
 use Rattle.sheet.proofs.merge.tally.Given as goal
 
 abbrev pub invariant-loop-x : goal.invariant-loop-x
 invariant-loop-x l =
-    RowsIn l.s l.x × RowsIn l.t l.y × (l.all + length (merged (plots_in l.s l.x) (plots_in l.t l.y)) ≡ length (merged (plots_in l.s l.initial.x) (plots_in l.t l.initial.y)))
-    × (conflict (plots_in l.s l.initial.x) (plots_in l.t l.initial.y) ≡ conflict (plots_in l.s l.x) (plots_in l.t l.y))
+    (l.all + length (merged (plots_of l.x) (plots_of l.y)) ≡ length (merged (plots_of l.initial.x) (plots_of l.initial.y)))
+    × (conflict (plots_of l.initial.x) (plots_of l.initial.y) ≡ conflict (plots_of l.x) (plots_of l.y))
 
 abbrev pub decreases-loop-x : goal.decreases-loop-x
-decreases-loop-x l = l.x.count + l.y.count
+decreases-loop-x l = l.x.rows.count + l.y.rows.count

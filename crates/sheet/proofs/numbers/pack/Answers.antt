@@ -1,7 +1,6 @@
 -- `pack` meets its contract: what is left after each field, and at the end. Assumes nothing.
 use mathlib.Core.Path.{◌≡◌, sym, ◌∙◌}
 use native.Mathlib.Omega.{arith}
-use native.Mathlib.Nat.{le_antisymm}
 use lib.ListN.{length}
 use lib.Seq.{drop-length}
 use Rattle.records.proofs.Splices.{splice_nil}
@@ -9,10 +8,10 @@ use Rattle.records.proofs.Steps.{total_width_more, pack_more}
 use Rattle.sheet.proofs.numbers.pack.Goals as goal
 
 pub loop-k-preserved : goal.loop-k-preserved
-loop-k-preserved c =
+loop-k-preserved g c =
     let l = c.loop-k in
     let a = c.args in
-    let w = total_width_more a.widths.now l.k c.loop-k-test.true in
+    let w = total_width_more a.widths.now l.k (omega arith) in
     let n = c.put_number.auto.s in
     let e = c.put_number.ensures in (
       omega arith,
@@ -22,8 +21,8 @@ loop-k-preserved c =
     )
 
 pub returns : goal.returns
-returns c =
+returns g c =
     let l = c.loop-k in
     let ws = c.args.widths.now in
-    let e : l.k ≡ length ws = le_antisymm l.invariant.0 c.loop-k-test.false in
+    let e : l.k ≡ length ws = omega arith in
     sym (splice_nil l.s l.p) ∙ (rw (e, drop-length) at l.invariant.3)

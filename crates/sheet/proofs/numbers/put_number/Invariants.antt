@@ -8,6 +8,3 @@ use Rattle.sheet.proofs.numbers.put_number.Given as goal
 
 abbrev pub invariant-loop-i : goal.invariant-loop-i
 invariant-loop-i l = (l.i ≤ l.width) × (length l.s ≡ length l.initial.s) × (splice l.s (l.at + l.i) (bytes (l.width - l.i) l.rest) ≡ splice l.initial.s l.at (bytes l.width l.v))
-
-abbrev pub decreases-loop-i : goal.decreases-loop-i
-decreases-loop-i l = l.width - l.i

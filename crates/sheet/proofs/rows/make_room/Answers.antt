@@ -13,7 +13,7 @@ use Rattle.sheet.specs.declared.Record.{Record}
 use Rattle.sheet.specs.Layout.{IsRecordLength, record_length, layout_of, Fits}
 use Rattle.sheet.specs.Order.{All}
 use Rattle.sheet.specs.Sheets.{plots_from, rows_bytes}
-use Rattle.sheet.proofs.Layouts.{longest, record_is_length}
+use Rattle.sheet.proofs.Layouts.{longest, record_is_length, tests_length}
 use Rattle.sheet.proofs.Order.{all_take, all_drop}
 use Rattle.sheet.proofs.Plots.{take_plots, drop_plots, plots_same}
 use Rattle.sheet.proofs.WrittenRows.{rows_moved}
@@ -27,78 +27,56 @@ record Room (M L n k at most : ℕ) : Type 0 where
   all : M * n ≤ L * n
   one_more : at + L * n + L ≤ most
 
-room : (M n k at most : ℕ) → IsRecordLength M × (k ≤ n) × (at + record_length * (n + 1) ≤ most) → Room M record_length n k at most
-room M n k at most h =
-    let w = longest M h.0 in
+room : (M n k at most : ℕ) → IsRecordLength M → (k ≤ n) × (at + record_length * (n + 1) ≤ most) → Room M record_length n k at most
+room M n k at most l h =
+    let w = longest M l in
     record {
-      old = mul_split M n k h.1;
-      new = mul_split record_length n k h.1;
+      old = mul_split M n k h.0;
+      new = mul_split record_length n k h.0;
       low = mul-le-mul_right k w;
       all = mul-le-mul_right n w;
-      one_more = omega (arith, h.2);
+      one_more = omega (arith, h.1);
     }
 
 -- ---- records that keep their length
 
-pub returns-then-each-eq-RECORD : goal.returns-then-each-eq-RECORD
-returns-then-each-eq-RECORD c =
+pub returns-then-x-eq-RECORD : goal.returns-then-x-eq-RECORD
+returns-then-x-eq-RECORD c =
     let a = c.args in
-    let m = room a.each a.count a.k a.at (length a.s.now) c.requires.record_length in
+    let x = a.x in
+    let m = room x.each.bytes x.count a.k x.at (length a.s.now) (tests_length _ x.each.known) c.requires.k_in_bounds in
     c.move_bytes.ensures
-    ∙ rows_moved record_length record_is_length a.each c.if-each-eq-RECORD.true a.s.now a.at a.k (a.count - a.k) (λ i. search rules) (omega arith)
+    ∙ rows_moved record_length record_is_length x.each.bytes c.if-x-eq-RECORD.true a.s.now x.at a.k (x.count - a.k) (λ i. search rules) (omega arith)
 
 -- ---- records that grow wider
 
-pub overflow_mul-each : goal.overflow_mul-each
-overflow_mul-each c =
-    let a = c.args in
-    let m = room a.each a.count a.k a.at (length a.s.now) c.requires.record_length in
-    record { fits = omega (arith, m, c.well_formed) }
-
-pub overflow_add-at : goal.overflow_add-at
-overflow_add-at c =
-    let a = c.args in
-    let m = room a.each a.count a.k a.at (length a.s.now) c.requires.record_length in
-    record { fits = omega (arith, m, c.well_formed) }
-
-pub recode-requires-clause-from_le_to : goal.recode-requires-clause-from_le_to
-recode-requires-clause-from_le_to c =
-    let a = c.args in
-    let m = room a.each a.count a.k a.at (length a.s.now) c.requires.record_length in
-    (omega arith, longest _ c.requires.record_length.0, omega arith)
-
-pub recode-requires-clause-record_length : goal.recode-requires-clause-record_length
-recode-requires-clause-record_length c =
-    let a = c.args in
-    let h = c.requires.record_length in
-    (h.0, record_is_length, rw (drop_plots a.each a.s.now a.at a.count a.k h.1) at (all_drop a.k c.requires.all))
+pub recode-requires-clause-all : goal.recode-requires-clause-all
+recode-requires-clause-all c =
+    let x = c.args.x in
+    rw (drop_plots x.each.bytes c.args.s.now x.at x.count c.args.k c.requires.k_in_bounds.0) at (all_drop c.args.k c.requires.all)
 
 -- those before the place are as they were, once a list rs is written from the place on
-same_below : (M n k at : ℕ) (s : List ℕ) (rs : List Record) → IsRecordLength M × (k ≤ n) × (at + record_length * (n + 1) ≤ length s)
+same_below : (M n k at : ℕ) (s : List ℕ) (rs : List Record) → IsRecordLength M → (k ≤ n) × (at + record_length * (n + 1) ≤ length s)
     → plots_from M (splice s (at + record_length * k + record_length) (rows_bytes record_length rs)) at k ≡ plots_from M s at k
-same_below M n k at s rs h =
-    let m = room M n k at (length s) h in
+same_below M n k at s rs l h =
+    let m = room M n k at (length s) l h in
     let to = at + record_length * k + record_length in
     plots_same M (splice s to (rows_bytes record_length rs)) s at at k (part_before s to (rows_bytes record_length rs) at (M * k) (omega arith) (omega arith))
 
-pub recode-requires-else-each-eq-RECORD-clause-from_le_to : goal.recode-requires-else-each-eq-RECORD-clause-from_le_to
-recode-requires-else-each-eq-RECORD-clause-from_le_to c =
+pub recode-requires-else-x-eq-RECORD-clause-all : goal.recode-requires-else-x-eq-RECORD-clause-all
+recode-requires-else-x-eq-RECORD-clause-all c =
     let a = c.args in
-    let m = room a.each a.count a.k a.at (length a.s.now) c.requires.record_length in
-    (omega arith, longest _ c.requires.record_length.0, omega (arith, m, c.recode.auto.s, c.requires.record_length.1))
+    let x = a.x in
+    let h = c.requires.k_in_bounds in
+    let same = ap (λ (t : List ℕ). plots_from x.each.bytes t x.at a.k) c.recode.ensures ∙ same_below x.each.bytes x.count a.k x.at a.s.now _ (tests_length _ x.each.known) h in
+    subst (All (Fits (layout_of record_length))) (sym same) (rw (take_plots x.each.bytes a.s.now x.at x.count a.k h.0) at (all_take a.k c.requires.all))
 
-pub recode-requires-else-each-eq-RECORD-clause-record_length : goal.recode-requires-else-each-eq-RECORD-clause-record_length
-recode-requires-else-each-eq-RECORD-clause-record_length c =
+pub returns-else-x-eq-RECORD : goal.returns-else-x-eq-RECORD
+returns-else-x-eq-RECORD c =
     let a = c.args in
-    let h = c.requires.record_length in
-    let same = ap (λ (t : List ℕ). plots_from a.each t a.at a.k) c.recode.ensures ∙ same_below a.each a.count a.k a.at a.s.now _ h in
-    (h.0, record_is_length, subst (All (Fits (layout_of record_length))) (sym same) (rw (take_plots a.each a.s.now a.at a.count a.k h.1) at (all_take a.k c.requires.all)))
-
-pub returns-else-each-eq-RECORD : goal.returns-else-each-eq-RECORD
-returns-else-each-eq-RECORD c =
-    let a = c.args in
-    let lower = plots_from a.each a.s.now a.at a.k in
-    let same = ap (λ (t : List ℕ). plots_from a.each t a.at a.k) c.recode.ensures ∙ same_below a.each a.count a.k a.at a.s.now _ c.requires.record_length in
-    c.recode-else-each-eq-RECORD.ensures
-    ∙ ap (λ (rs : List Record). splice c.recode.new.s a.at (rows_bytes record_length rs)) same
-    ∙ ap (λ (t : List ℕ). splice t a.at (rows_bytes record_length lower)) c.recode.ensures
+    let x = a.x in
+    let lower = plots_from x.each.bytes a.s.now x.at a.k in
+    let same = ap (λ (t : List ℕ). plots_from x.each.bytes t x.at a.k) c.recode.ensures ∙ same_below x.each.bytes x.count a.k x.at a.s.now _ (tests_length _ x.each.known) c.requires.k_in_bounds in
+    c.recode-else-x-eq-RECORD.ensures
+    ∙ ap (λ (rs : List Record). splice c.recode.new.s x.at (rows_bytes record_length rs)) same
+    ∙ ap (λ (t : List ℕ). splice t x.at (rows_bytes record_length lower)) c.recode.ensures

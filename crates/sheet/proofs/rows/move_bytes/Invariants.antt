@@ -7,6 +7,3 @@ use Rattle.sheet.proofs.rows.move_bytes.Given as goal
 
 abbrev pub invariant-loop-i : goal.invariant-loop-i
 invariant-loop-i l = (l.i ≤ l.count) × (length l.s ≡ length l.initial.s) × (l.s ≡ splice l.initial.s (l.to + l.i) (part l.initial.s (l.from + l.i) (l.count - l.i)))
-
-abbrev pub decreases-loop-i : goal.decreases-loop-i
-decreases-loop-i l = l.i

@@ -6,63 +6,55 @@ use native.Mathlib.Nat.{mul-le-mul_right}
 use lib.ListN.{length}
 use Rattle.records.proofs.Splices.{splice_nil}
 use Rattle.records.proofs.Rows.{mul_pred, mul_split}
+use Rattle.sheet.specs.declared.rows.Rows.{Rows}
+use Rattle.sheet.specs.Layout.{record_length}
+use Rattle.sheet.proofs.Layouts.{longest, record_is_length, tests_length}
 use Rattle.sheet.proofs.Plots.{plots_none, all_plot}
 use Rattle.sheet.proofs.WrittenRows.{moved_part, moved_more}
 use Rattle.sheet.proofs.rows.recode.Goals as goal
 
--- the record that is next, and its place
-record Turn (p q P Q M L n most : ℕ) : Type 0 where
-  read_to : p + M ≡ P
-  put_to : q + L ≡ Q
-  above : P ≤ Q
-  room : Q + L * n ≤ most
+-- the record before number k, and its place, where those from number k on are written
+record Turn (x : Rows) (to k most : ℕ) : Type 0 where
+  read_to : x.at + x.each.bytes * (k - 1) + x.each.bytes ≡ x.at + x.each.bytes * k
+  put_to : to + record_length * (k - 1) + record_length ≡ to + record_length * k
+  above : x.at + x.each.bytes * k ≤ to + record_length * k
+  room : to + record_length * k + record_length * (x.count - k) ≤ most
 
--- where `left` of `count` records are left, the old ones of M bytes and the new ones of no fewer, L
-turn : (from to M L left count most P Q : ℕ) → 0 < left → left ≤ count → (from ≤ to) × (M ≤ L) × (to + L * count ≤ most) → P ≡ from + M * left → Q ≡ to + L * left → Turn (P - M) (Q - L) P Q M L (count - left) most
-turn from to M L left count most P Q h n r e f =
-    let w = mul_pred L left h in
-    let v = mul_pred M left h in
+turn : (x : Rows) (to k most : ℕ) → 0 < k → k ≤ x.count → (x.at ≤ to) × (to + record_length * x.count ≤ most) → Turn x to k most
+turn x to k most h n r =
+    let w : x.each.bytes ≤ record_length = longest _ (tests_length _ x.each.known) in
     record {
-      read_to = omega arith;
-      put_to = omega arith;
-      above = omega (arith, mul-le-mul_right left r.1, r.0);
-      room = omega (arith, mul_split L count left n, r.2);
+      read_to = omega (arith, mul_pred x.each.bytes k h);
+      put_to = omega (arith, mul_pred record_length k h);
+      above = omega (arith, mul-le-mul_right k w, r.0);
+      room = omega (arith, mul_split record_length x.count k n, r.1);
     }
 
 -- none is moved
-pub loop-left-init : goal.loop-left-init
-loop-left-init c =
+pub loop-k-init : goal.loop-k-init
+loop-k-init c =
     let a = c.args in
-    let n : a.count - a.count ≤ 0 = omega arith in
-    (omega arith, refl, refl, refl, rw (plots_none a.each a.s.now (a.from + a.each * a.count) (a.count - a.count) n) (sym (splice_nil a.s.now (a.to + a.wide * a.count))))
+    let x = a.x in
+    rw (plots_none x.each.bytes a.s.now (x.at + x.each.bytes * x.count) (x.count - x.count) (omega arith)) (sym (splice_nil a.s.now (a.to + record_length * x.count)))
 
 -- the record that is next is read as it was, and fits
-pub copy_record-requires-clause-record_length : goal.copy_record-requires-clause-record_length
-copy_record-requires-clause-record_length c =
-    let l = c.loop-left in
+pub copy_record-requires-clause-fits : goal.copy_record-requires-clause-fits
+copy_record-requires-clause-fits c =
+    let l = c.loop-k in
     let a = c.args in
-    let i = l.invariant in
-    let r = c.requires.record_length in
-    let t = turn a.from a.to a.each a.wide l.left a.count (length a.s.now) l.p l.q c.loop-left-test.true i.0 c.requires.from_le_to i.1 i.2 in
+    let x = a.x in
+    let t = turn x a.to l.k (length a.s.now) c.loop-k-test.true l.auto.k c.requires.at_le_to in
     let was =
-    moved_part a.wide r.1 a.s.now l.s a.each l.p l.q (a.count - l.left) (l.p - a.each) (l.q - a.wide) t.read_to t.put_to t.above t.room i.4 in
-    let e : a.from + a.each * (l.left - 1) ≡ l.p - a.each = omega (arith, mul_pred a.each l.left c.loop-left-test.true, i.1) in
-    (r.0, r.1, rw was (rw e at (all_plot a.each a.s.now a.from a.count (l.left - 1) (omega (arith, i.0, c.loop-left-test.true)) r.2)))
+    moved_part record_length record_is_length a.s.now l.s x.each.bytes _ _ (x.count - l.k) (x.at + x.each.bytes * (l.k - 1)) (a.to + record_length * (l.k - 1)) t.read_to t.put_to t.above t.room l.invariant in
+    rw was (all_plot x.each.bytes a.s.now x.at x.count (l.k - 1) (omega arith) c.requires.all)
 
-pub loop-left-preserved : goal.loop-left-preserved
-loop-left-preserved c =
-    let l = c.loop-left in
+pub loop-k-preserved : goal.loop-k-preserved
+loop-k-preserved c =
+    let l = c.loop-k in
     let a = c.args in
-    let i = l.invariant in
-    let t = turn a.from a.to a.each a.wide l.left a.count (length a.s.now) l.p l.q c.loop-left-test.true i.0 c.requires.from_le_to i.1 i.2 in
-    let n : a.count - (l.left - 1) ≡ a.count - l.left + 1 = omega (arith, i.0, c.loop-left-test.true) in
-    let e = mul_pred a.each l.left c.loop-left-test.true in
-    let w = mul_pred a.wide l.left c.loop-left-test.true in (
-      omega (arith, i.0),
-      omega (arith, i.1),
-      omega (arith, i.2),
-      omega (arith, c.copy_record.auto.s, i.3),
-      c.copy_record.ensures
-          ∙ rw n (moved_more a.wide c.requires.record_length.1 a.s.now l.s a.each l.p l.q (a.count - l.left) (l.p - a.each) (l.q - a.wide) t.read_to t.put_to t.above t.room i.4
-          _ refl),
-    )
+    let x = a.x in
+    let t = turn x a.to l.k (length a.s.now) c.loop-k-test.true l.auto.k c.requires.at_le_to in
+    let n : x.count - (l.k - 1) ≡ x.count - l.k + 1 = omega (arith, l.auto.k, c.loop-k-test.true) in
+    c.copy_record.ensures
+    ∙ rw n (moved_more record_length record_is_length a.s.now l.s x.each.bytes _ _ (x.count - l.k) (x.at + x.each.bytes * (l.k - 1)) (a.to + record_length * (l.k - 1)) t.read_to t.put_to t.above t.room l.invariant
+    _ refl)

@@ -1,14 +1,11 @@
--- `recode` meets its contract. The invariant: the records from number `left` on are written in their place. Assumes nothing.
+-- `recode` meets its contract. The invariant: the records from number k on are written in their place. Assumes nothing.
 use mathlib.Core.Path.{◌≡◌}
-use Prim.Native.Nat.{◌+◌, ◌-◌, ◌*◌, ◌≤◌}
-use lib.ListN.{length}
+use Prim.Native.Nat.{◌+◌, ◌-◌, ◌*◌}
 use Rattle.records.specs.Parts.{splice}
+use Rattle.sheet.specs.Layout.{record_length}
 use Rattle.sheet.specs.Sheets.{plots_from, rows_bytes}
 use Rattle.sheet.proofs.rows.recode.Given as goal
 
-abbrev pub invariant-loop-left : goal.invariant-loop-left
-invariant-loop-left l =
-    (l.left ≤ l.count) × (l.p ≡ l.from + l.each * l.left) × (l.q ≡ l.to + l.wide * l.left) × (length l.s ≡ length l.initial.s) × (l.s ≡ splice l.initial.s l.q (rows_bytes l.wide (plots_from l.each l.initial.s l.p (l.count - l.left))))
-
-abbrev pub decreases-loop-left : goal.decreases-loop-left
-decreases-loop-left l = l.left
+abbrev pub invariant-loop-k : goal.invariant-loop-k
+invariant-loop-k l =
+    l.s ≡ splice l.initial.s (l.to + record_length * l.k) (rows_bytes record_length (plots_from l.x.each.bytes l.initial.s (l.x.at + l.x.each.bytes * l.k) (l.x.count - l.k)))

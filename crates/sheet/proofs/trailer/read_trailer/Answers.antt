@@ -4,4 +4,4 @@ use Rattle.sheet.proofs.trailer.read_trailer.Goals as goal
 
 pub returns : goal.returns
 unfolding trailer_at
-returns c = rw c.unpack.ensures
+returns c = rw c.unpack-v.ensures.values

@@ -4,7 +4,7 @@ use lib.IntN.{ℤ, pos, neg_ℤ, ◌+ℤ◌, +ℤ_idl}
 use mir.Syntax.{w32}
 use mir.Val.{to_z, of_z}
 use mir.Facts.{to_z-of_z}
-use Rattle.integers.proofs.Range.{minus, negated, minus_both}
+use Rattle.integers.proofs.Range.{negated}
 use Rattle.octagon.specs.Widths.{Held}
 use Rattle.octagon.proofs.Fields.{stored}
 use Rattle.octagon.specs.OneCell.{one_cell}
@@ -37,27 +37,3 @@ returns c =
     (after c _ ∙ ap (λ o. o.c5) e)
     (+ℤ_idl _ ∙ ap (λ o. o.c6) e)
     (after c _ ∙ ap (λ o. o.c7) e)
-
-pub overflow_sub-result : goal.overflow_sub-result
-overflow_sub-result c = minus (fits c).held0
-
-pub overflow_sub-result-2 : goal.overflow_sub-result-2
-overflow_sub-result-2 c = (fits c).held1
-
-pub overflow_add-result : goal.overflow_add-result
-overflow_add-result c = (fits c).held3
-
-pub overflow_sub-result-3 : goal.overflow_sub-result-3
-overflow_sub-result-3 c = minus (fits c).held6
-
-pub overflow_add-result-2 : goal.overflow_add-result-2
-overflow_add-result-2 c = let h = fits c in minus_both _ h.held6 h.held5
-
-pub overflow_sub-result-4 : goal.overflow_sub-result-4
-overflow_sub-result-4 c = minus (fits c).held6
-
-pub overflow_sub-result-5 : goal.overflow_sub-result-5
-overflow_sub-result-5 c = minus (fits c).held6
-
-pub overflow_sub-result-6 : goal.overflow_sub-result-6
-overflow_sub-result-6 c = let h = fits c in minus_both _ h.held6 h.held7

@@ -29,14 +29,8 @@ twice c =
 less : (c : Start) → SFits w32 ((c.args.n +ℤ c.args.n) -ℤ pos 1)
 less c = record { sfits = edge_fits c.args.n (close c) }
 
-pub overflow_add-result : goal.overflow_add-result
-overflow_add-result c = simp (to_z-of_z c.ranges.n) (twice c)
-
-pub overflow_sub-result : goal.overflow_sub-result
-overflow_sub-result c = simp (to_z-of_z c.ranges.n, to_z-of_z (twice c)) (less c)
-
 pub returns : goal.returns
 unfolding of_bits
 returns c =
-    let s = (goal.at.returns c).Start in
+    let s : Start = search in
     simp (to_z-of_z s.ranges.n, to_z-of_z (twice s), to_z-of_z (less s)) (ap (λ f. le f s.args.e) (over_mul ((s.args.n +ℤ s.args.n) -ℤ pos 1) 2 (less s).sfits))

@@ -1,2 +1,0 @@
--- Lemmas on the numbers of this program.
-pub mod Lift

@@ -1,9 +1,0 @@
--- `tighten` is safe and ends: the measure is what is left of the turns. Assumes nothing.
-use Rattle.std.proofs.Common.{◌-◌}
-use Rattle.brute_force.proofs.sets.tighten.Given as goal
-
-abbrev pub invariant-loop-k : goal.invariant-loop-k
-invariant-loop-k l = Unit {0}
-
-abbrev pub decreases-loop-k : goal.decreases-loop-k
-decreases-loop-k l = 8 - l.k

@@ -1,7 +1,0 @@
--- `kept` is safe and ends: the index rises to the length. Assumes nothing.
-use Prim.Native.Nat.{◌-◌}
-use lib.ListN.{length}
-use Rattle.export_cases.proofs.sheets.kept.Given as goal
-
-abbrev pub decreases-loop-i : goal.decreases-loop-i
-decreases-loop-i l = length l.lent - l.i
