@@ -16,10 +16,22 @@ int32_t from_seed(uint64_t *seed, int32_t low, int32_t high);
 /* The time in nanoseconds. */
 double now(void);
 
-/* The n-fold calls (benchmark_folds.c), the spectrum (benchmark_spectra.c), and the calls on sheets (benchmark_sheets.c). */
+/* Ends the program unless both calls answered alike, and were accepted where that is asked. */
+void need(int alike, const char *name);
+
+/* Bounds with a cell, at most `size` cells across and about as far as this from (0, 0), one of them slack (benchmark_octagons.c). */
+void draw_bounds(int32_t c[8], int32_t size, int32_t far);
+
+/* The parts: each has a file of its name. */
+void benchmark_octagons(void);
 void benchmark_folds(void);
+void benchmark_outlines(void);
+void benchmark_splits(void);
+void benchmark_surveys(void);
 void benchmark_spectra(void);
 void benchmark_sheets(void);
+void benchmark_joins(void);
+void benchmark_listing(void);
 
 static inline void say(const char *name, double proved, double plain) { printf("%-15s %9.2f %12.2f %8.2f\n", name, proved, plain, proved / plain); }
 

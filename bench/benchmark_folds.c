@@ -6,7 +6,7 @@
 enum { INPUTS = 512, TURNS = 4000, OTHERS = 65536 };
 
 /* How far an element reaches from (0, 0), all its folds, and a plot beyond these; and how far a plot is moved. */
-enum { REACH = 20, FOLDED_REACH = 800, ROOM = 200, MOVE = 3000 };
+enum { REACH = 20, FOLDED_REACH = 800000, ROOM = 200, MOVE = 1000000 };
 
 /* No mark: what a refused spread has to leave. */
 enum { UNMARKED = 2 };
@@ -41,7 +41,7 @@ static int32_t drawn(int32_t low, int32_t high) {
 }
 
 /* Bounds with the cell (0, 0), that reach at most so far from it; some of them are slack. */
-static void draw_bounds(int32_t c[8], int32_t reach) {
+static void draw_about(int32_t c[8], int32_t reach) {
     for (int k = 0; k < 8; k++)
         c[k] = drawn(0, k % 2 ? 2 * reach : reach);
 }
@@ -65,8 +65,8 @@ static void oppose(fold *f) {
 static fold draw_fold(void) {
     fold f;
     int32_t reach = drawn(1, REACH), n = drawn(0, 7) ? drawn(0, FOLDED_REACH / reach) : drawn(0, 1);
-    draw_bounds(f.element, reach);
-    draw_bounds(f.plot, ROOM);
+    draw_about(f.element, reach);
+    draw_about(f.plot, ROOM);
     for (int k = 0; k < 8; k++)
         f.plot[k] += n * f.element[k];
     if (!drawn(0, 15))
@@ -85,8 +85,8 @@ static void spoil(int32_t c[8]) {
 /* Operands anywhere on the map or partly off it, large, small, of one cell or of none, and any number of folds up to one past the limit. */
 static fold draw_other(void) {
     fold f;
-    draw_bounds(f.plot, drawn(0, 1) ? drawn(0, LIMIT) : ROOM);
-    draw_bounds(f.element, drawn(0, 1) ? drawn(0, LIMIT) : drawn(0, 1));
+    draw_about(f.plot, drawn(0, 1) ? drawn(0, LIMIT) : ROOM);
+    draw_about(f.element, drawn(0, 1) ? drawn(0, LIMIT) : drawn(0, 1));
     if (!drawn(0, 7))
         oppose(&f);
     move(f.plot, LIMIT / 2);

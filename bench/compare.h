@@ -8,12 +8,12 @@
 
 uint32_t any(void);
 int32_t from(int32_t low, int32_t high);
-/* Bounds: small ones, often moved to an edge of the map, slack or damaged; else any. */
+/* The map's limit, or one time in four the old map's. */
+int32_t edge(void);
+/* A number at or next to a limit or an end of 32 bits, or any. */
+int32_t extreme(void);
+/* Bounds: small ones, often moved to an edge of the map or of the old one, slack or damaged; else any. */
 void random_bounds(int32_t c[8], int size, int row);
-/* An outline that mostly closes, with sides of about this size. */
-void random_outline(int32_t start[2], uint32_t n[8], uint32_t size);
-/* A plot whose outline mostly fits a record. */
-void random_plot(plot *p);
 /* A tape whose points are mostly on the map, about half of them at or next to the edges of cells. */
 void random_tape(double *tape, size_t len);
 /* A tree, mostly on the map and often at its edge (input_trees.c). */
@@ -34,16 +34,39 @@ int32_t shift(int32_t down, int32_t up);
  * and either operand may have no cell or leave the map (input_spectra.c). */
 void random_spectrum(int32_t p[8], int32_t f[8]);
 
-/* ---- sheets (input_sheets.c) */
+/* ---- outlines and plots (input_plots.c) */
 
+/* An outline that mostly closes, with sides of about this size, often at an edge of the map or of the old one. */
+void random_outline(int32_t start[2], uint32_t n[8], uint32_t size);
+/* Makes sides of a small walk so long that sums of them pass 32 bits: it closes, or it does where these are cut to 32 bits and not else. */
+void enlarge(uint32_t n[8]);
+/* The bound along an axis, upward or downward: 0, 2, 4 or 6. */
+int any_side(void);
+/* Moves an outline so that this is what it reaches along such a bound. */
+void end_at(int32_t start[2], const uint32_t sides[8], int side, int64_t end);
 /* Any fee row, the least and the greatest among them. */
 uint16_t random_fee_row(void);
-/* Plots that a sheet can hold, by rising number, with a number left out before each. */
-void random_plots(plot *p, uint32_t count);
+/* A plot of any outline, mostly a small one; and one that a record of so many bytes can hold. */
+void random_plot(plot *p);
+void sound_plot(plot *p, uint32_t each);
+/* Plots that a sheet with records of so many bytes can hold, by rising number, with a number left out before each. */
+void random_plots(plot *p, uint32_t count, uint32_t each);
+
+/* ---- sheets (input_sheets.c) */
+
+/* The length of a record: 24, 26 or 46. */
+uint32_t any_length(void);
+/* Any bytes, up to three more than `size`. */
+void put_any(uint8_t *s, size_t size);
+/* Spoils one of the records of a sheet: its number is 0 or not above the one before, it does not close, it leaves its own map, or it has sides
+ * whose sums pass 32 bits. */
+void spoil_record(uint8_t *s, const frame *f);
 /* Alters the count, the record length and the distance in the trailer of a sheet, so that some of them fit each other. */
 void spoil_trailer(uint8_t *s, size_t len);
 /* Alters a few bytes of a sheet, most often of its trailer. */
 void spoil_bytes(uint8_t *s, size_t len);
+/* Spoils a record of a sheet, its trailer, a few bytes, or its length. */
+void spoil_sheet(uint8_t *s, size_t *len);
 
 /* ---- joins (input_joins.c) */
 
@@ -57,16 +80,17 @@ typedef struct {
 } dealt;
 /* Some plots are in one sheet, some in both, and some in both under two numbers; at times one that is in both is altered in one. */
 void random_deal(dealt *d);
-/* Alters one field of a plot, or as few sides as an outline can differ in, and leaves it one that a sheet can hold. */
-void alter_plot(plot *p, int has_fee_row);
-/* Spoils one of the two sheets: a record, the trailer, a few bytes, or the length. */
-void spoil_dealt(uint8_t *s, const dealt *d, int of, size_t *len);
+/* Alters one field of a plot, or as few sides as an outline can differ in, and leaves it one that a record of so many bytes can hold. */
+void alter_plot(plot *p, uint32_t each);
 
 /* ---- what was compared (compare.c) */
 
 extern uint64_t octagons_by_cells, pairs_by_cells, outlines_by_cells, splits_by_cells, trees_by_cells, listings, widened;
 /* The joins that were accepted, and those of them that kept a plot of both sheets once. */
 extern uint64_t joined, joined_once;
+/* The conversions that were accepted of each record length, how many sheets were converted once more, how many after an insert, and how many
+ * are refused with 21. */
+extern uint64_t converted[3], converted_again, converted_grown, off_old_map;
 /* The calls with a spread in them: how many answers of each are filled, how many of these were worked out by cells too, and how many
  * spreads of opposed rows leave the map. */
 enum { DILATE, OPENING, CLOSING, DILATE_N, DILATE_M_N, SPREADS };
@@ -100,8 +124,8 @@ void check(const char *call, const int32_t *p, const int32_t *f, uint32_t got, c
 /* ---- sheets (compare_sheets.c) */
 
 enum { ROOM = SHEET + 64, PAST = 64 };
-/* The buffer of every call on sheets, the third of a join: its first bytes are lent, at most ROOM of them, and PAST bytes past those
- * are compared too. */
+/* The buffer of every call on sheets, the third of a join and the second of a conversion: its first bytes are lent, at most ROOM of them,
+ * and PAST bytes past those are compared too. */
 extern uint8_t sheet[ROOM + PAST];
 /* The check, the fetch and the read of a record, and the listing, on some calls or always. */
 void compare_reads(size_t room, size_t len, int always);
@@ -114,9 +138,25 @@ plot plot_of(uint32_t i);
 /* The join of two sheets, each with PAST bytes past its buffer, in that of the calls on sheets; the new length where it is accepted
  * (compare_joins.c). */
 uint32_t compare_join(const half *first, const half *second, size_t room, size_t *len);
+/* The conversion of a sheet, with PAST bytes past its buffer, into that of the calls on sheets; the new length where it is accepted
+ * (compare_conversions.c). */
+uint32_t compare_convert(const half *first, size_t room, size_t *len);
+
+/* ---- spectra (compare_spectra.c) */
+
+/* The numbers that a slice of bounds has room for. */
+enum { LENT = 16 };
+/* Places for so many entries. */
+uint64_t *new_places(size_t count);
+/* The calls for a spectrum with lists of every length from 0 to one past the last entry where there are few; else of the lengths next to the
+ * ends, and any. */
+void compare_list_lengths(const int32_t p[LENT], const int32_t f[LENT], const spectrum *want);
+/* Finished entries sum to the plot's cells. */
+void compare_sum(const int32_t p[LENT], const int32_t f[LENT], const spectrum *want);
 
 /* ---- the parts (compare_octagons.c, compare_pairs.c, compare_triples.c, compare_lengths.c, compare_random_sheets.c,
- * compare_full_sheets.c, compare_tapes.c, compare_trees.c, compare_joins.c, compare_full_joins.c, compare_spectra.c) */
+ * compare_full_sheets.c, compare_edges.c, compare_tapes.c, compare_trees.c, compare_joins.c, compare_full_joins.c, compare_conversions.c,
+ * compare_full_conversions.c, compare_spectra.c, compare_known_spectra.c) */
 
 void compare_one(const int32_t c[8], uint64_t round);
 void compare_two(const int32_t p[8], const int32_t f[8], uint32_t n);
@@ -127,10 +167,12 @@ void compare_outline(void);
 void compare_lengths(const int32_t p[8], const int32_t f[8]);
 /* The constants of koxirmeta.h: what is answered at each limit, and one past it. */
 void compare_constants(void);
-/* A random sheet of either record length, grown and damaged. */
+/* A random sheet of any record length, grown and damaged. */
 void compare_sheet(void);
 /* The fullest sheets, and those next to them. */
 void compare_full(void);
+/* Plots at the edges of both maps and one past them, in sheets of every record length. */
+void compare_edges(void);
 void compare_tape(void);
 /* Tapes of up to a million numbers. */
 void compare_long_tapes(void);
@@ -142,6 +184,10 @@ void compare_radii(void);
 void compare_pair_of_sheets(void);
 /* The joins that fill a sheet, and those next to them. */
 void compare_full_joins(void);
+/* A random sheet, converted in buffers of several lengths, once more, and after an insert. */
+void compare_conversion(void);
+/* The conversions that fill a sheet, and those next to them. */
+void compare_full_conversions(void);
 /* A random plot and frame, with lists of several lengths, slices of wrong ones, and the plot moved. */
 void compare_spectrum(void);
 /* The spectra of the whole map, and the smallest that is filled. */

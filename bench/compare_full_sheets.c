@@ -1,4 +1,4 @@
-/* The fullest sheets of either record length, those that one more plot fills, and those next to them. */
+/* The fullest sheets of each record length, those that one more plot fills, and those next to them. */
 #include "compare.h"
 #include <string.h>
 
@@ -13,27 +13,41 @@ typedef struct {
 static const filling FILLINGS[] = {
     {0, 24, 2730, ROOM, 12},      /* the fullest of each length */
     {0, 26, 2520, ROOM, 12},
-    {0, 24, 2519, ROOM, 0},       /* 26 * 2520 + 16 bytes after the insert: exactly 65,536 */
-    {0, 26, 2519, ROOM, 0},
-    {0, 24, 2519, SHEET, 0},
-    {0, 24, 2519, SHEET - 1, 12},
-    {0, 26, 2519, SHEET - 1, 12},
-    {0, 24, 2520, ROOM, 12},      /* 26 bytes more, though the buffer has room, and base records would have had it */
-    {1, 24, 2519, ROOM, 12},
-    {26, 24, 2518, ROOM, 0},
-    {27, 24, 2518, ROOM, 12},
-    {5063, 24, 2519, ROOM, 12},   /* 65,535 and 65,536 bytes as it is */
-    {5064, 24, 2519, ROOM, 12},
-    {65494, 24, 0, ROOM, 0},
-    {65495, 24, 0, ROOM, 12},
-    {65494, 26, 0, ROOM, 0},
-    {65495, 26, 0, ROOM, 12},
+    {0, 46, 1424, ROOM, 12},
+    {0, 24, 1423, ROOM, 0},       /* 1,424 plots after the insert, which a sheet of 46 holds; 16 bytes are left */
+    {0, 26, 1423, ROOM, 0},
+    {0, 46, 1423, ROOM, 0},
+    {16, 24, 1423, ROOM, 0},      /* 16 + 46 * 1424 + 16 bytes after the insert: exactly 65,536 */
+    {16, 26, 1423, ROOM, 0},
+    {16, 46, 1423, ROOM, 0},
+    {16, 24, 1423, SHEET, 0},
+    {16, 24, 1423, SHEET - 1, 12},
+    {16, 26, 1423, SHEET - 1, 12},
+    {16, 46, 1423, SHEET - 1, 12},
+    {17, 24, 1423, ROOM, 12},     /* a byte more, though the buffer has room, and shorter records would have had it */
+    {17, 26, 1423, ROOM, 12},
+    {17, 46, 1423, ROOM, 12},
+    {0, 24, 1424, ROOM, 12},      /* a plot more */
+    {0, 26, 1424, ROOM, 12},
+    {0, 24, 2519, ROOM, 12},      /* one that would fill a sheet of 26 */
+    {0, 26, 2519, ROOM, 12},
+    {62, 24, 1422, ROOM, 0},
+    {63, 26, 1422, ROOM, 12},
+    {31367, 24, 1423, ROOM, 12},  /* 65,535 and 65,536 bytes as it is */
+    {31368, 24, 1423, ROOM, 12},
+    {65474, 24, 0, ROOM, 0},
+    {65475, 24, 0, ROOM, 12},
+    {65474, 26, 0, ROOM, 0},
+    {65475, 26, 0, ROOM, 12},
+    {65474, 46, 0, ROOM, 0},
+    {65475, 46, 0, ROOM, 12},
     {65520, 24, 0, ROOM, 12},
 };
 
-/* Plot i: its number is even. */
+/* Plot i: its number is even, and no two of the first one's sides are equal. */
 plot plot_of(uint32_t i) {
-    plot p = {2 + 2 * i, {(int32_t)i - 1300, 7}, {i % 7, i % 3, i % 5, 0, i % 7, i % 3, i % 5, 0}, (uint16_t)(i * 26)};
+    const uint32_t a = i % 7, t = i % 3, b = i % 5;
+    plot p = {2 + 2 * i, {(int32_t)i - 1300, 11}, {1 + a, 3 + t, 6 + b, 7, 4 + a, 2 + t, 5 + b, 9}, (uint16_t)(i * 26)};
     return p;
 }
 
@@ -63,10 +77,10 @@ static void compare_filled(void) {
     size_t len;
     memset(sheet, 0xa5, sizeof sheet);
     compare_start(ROOM, 0, &len);
-    for (uint32_t i = 0; i < 2530; i++) {
+    for (uint32_t i = 0; i < 1434; i++) {
         plot p = plot_of(i);
         p.number = 1 + i * 1237u % 65521u;
-        agree("a filling", NULL, compare_insert(&p, ROOM, &len), i < 2520 ? 0 : 12, 1);
+        agree("a filling", NULL, compare_insert(&p, ROOM, &len), i < 1424 ? 0 : 12, 1);
     }
     compare_reads(ROOM, len, 1);
 }

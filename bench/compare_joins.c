@@ -32,16 +32,10 @@ uint32_t compare_join(const half *first, const half *second, size_t room, size_t
     return got;
 }
 
-/* Any bytes, up to three more than `size`. */
-static void fill(uint8_t *s, size_t size) {
-    for (size_t i = 0; i < size; i += 4)
-        put_number(s + i, 4, any());
-}
-
 /* Writes one of the sheets that were dealt to a buffer. */
 static half written(uint8_t *s, const dealt *d, int of) {
     size_t len = d->heading[of] + (size_t)d->each[of] * d->count[of] + TRAILER;
-    fill(s, len + SLACK + PAST);
+    put_any(s, len + SLACK + PAST);
     put_sheet(s, d->heading[of], d->each[of], d->plots[of], d->count[of]);
     return (half){s, len + any() % SLACK, len};
 }
@@ -61,12 +55,12 @@ static void write_nested(dealt *d, half h[2]) {
     h[1] = (half){lent[0], inner.len + any() % (h[0].room - inner.len), inner.len};
 }
 
-/* The bytes that are lent for a join of `next`: none, fewer, as many as base records would need, one too few, that many, or more. */
+/* The bytes that are lent for a join of `next`: none, fewer, as many as records of any length would need, one too few, that many, or more. */
 static size_t some_room(const dealt *d, size_t next) {
     switch (any() % 8) {
     case 0: return 0;
     case 1: return any() % next;
-    case 2: return d->heading[0] + BASE_RECORD * (size_t)d->numbers + TRAILER;
+    case 2: return d->heading[0] + any_length() * (size_t)d->numbers + TRAILER;
     case 3: return next - 1;
     case 4:
     case 5: return next;
@@ -77,7 +71,7 @@ static size_t some_room(const dealt *d, size_t next) {
 /* A join in a buffer of any bytes, and at times the calls that read what it gave. */
 static void compare_once(const half *first, const half *second, size_t room) {
     size_t len;
-    fill(sheet, room + PAST);
+    put_any(sheet, room + PAST);
     if (!compare_join(first, second, room, &len) && any() % 4 == 0)
         compare_reads(room, len, 0);
 }
@@ -94,7 +88,7 @@ void compare_pair_of_sheets(void) {
     uint32_t spoilt = any() % 3 ? 0 : 1 + any() % 3; /* neither, the first, the second or both */
     for (int k = 0; k < 2; k++)
         if (spoilt >> k & 1)
-            spoil_dealt(lent[is_nested ? 0 : k], &d, k, &h[k].len);
+            spoil_sheet(lent[is_nested ? 0 : k], &h[k].len);
     size_t next = d.heading[0] + RECORD * (size_t)d.numbers + TRAILER, alone = d.heading[0] + RECORD * (size_t)d.count[0] + TRAILER;
     for (int turn = 0; turn < 2; turn++)
         compare_once(&h[0], &h[1], some_room(&d, next));

@@ -7,7 +7,8 @@ enum { CALLS = 28 };
 
 void compare_lengths(const int32_t p[8], const int32_t f[8]) {
     int32_t out[9], start[3] = {1, 2, 3};
-    uint32_t n[14] = {0}, cells = 77, number = 78, mark = 80;
+    uint32_t n[14] = {0}, number = 78, mark = 80;
+    uint64_t cells = 77;
     uint16_t fee_row = 79;
     uint8_t lent[64] = {0};
     double metres[3] = {1, 2, 3};
@@ -15,7 +16,7 @@ void compare_lengths(const int32_t p[8], const int32_t f[8]) {
     cleared(out);
     int right = kx_normalise(p, w, out, 8) == KX_WRONG_LENGTH && kx_normalise(p, 8, out, w) == KX_WRONG_LENGTH && kx_count(p, w, &cells) == KX_WRONG_LENGTH;
     right &= kx_dilate(p, w, f, 8, out, 8, &mark) == KX_WRONG_LENGTH && kx_erode(p, 8, f, w, out, 8) == KX_WRONG_LENGTH && kx_opening(p, 8, f, 8, out, w, &mark) == KX_WRONG_LENGTH;
-    right &= kx_closing(p, w, f, w, out, w, &mark) == KX_WRONG_LENGTH && kx_dilate_n(p, 0, f, 8, 70000, out, 8, &mark) == KX_WRONG_LENGTH && kx_erode_n(p, 8, f, 8, 1, out, 0) == KX_WRONG_LENGTH;
+    right &= kx_closing(p, w, f, w, out, w, &mark) == KX_WRONG_LENGTH && kx_dilate_n(p, 0, f, 8, FOLDS + 1, out, 8, &mark) == KX_WRONG_LENGTH && kx_erode_n(p, 8, f, 8, 1, out, 0) == KX_WRONG_LENGTH;
     right &= kx_to_octagon(start, u, n, 8, out, 8) == KX_WRONG_LENGTH && kx_to_octagon(start, 2, n, w, out, 8) == KX_WRONG_LENGTH && kx_to_octagon(start, 2, n, 8, out, w) == KX_WRONG_LENGTH;
     right &= kx_to_outline(p, 8, start, u, n, 8) == KX_WRONG_LENGTH && kx_to_outline(p, 8, start, 2, n, w) == KX_WRONG_LENGTH && kx_vertex_place(p, 8, 0, metres, u) == KX_WRONG_LENGTH;
     right &= kx_sheet_fetch(lent, 64, 64, 0, &number, start, u, n, 8, &fee_row) == KX_WRONG_LENGTH && kx_sheet_fetch(lent, 64, 64, 0, &number, start, 2, n, w, &fee_row) == KX_WRONG_LENGTH;
@@ -45,14 +46,14 @@ void compare_constants(void) {
     uint32_t count = 77;
     size_t len = 5, grown = 5;
     /* a line: thirteen words of at most twenty digits, each with one byte after it; a text: a line for each record, and two more */
-    const int named[] = {KX_MAP_LIMIT, KX_FOLD_LIMIT, KX_RADIUS_LIMIT, KX_SHEET_LIMIT, KX_RECORD, KX_FEE_RECORD, KX_BASE_RECORD, KX_TRAILER, KX_BOUNDS, KX_START, KX_SIDES, KX_COUNTS, KX_PLACE, KX_LINE, KX_TEXT, KX_EXACT, KX_FILLED, KX_SPENT, KX_FINISHED};
-    const int wanted[] = {LIMIT, FOLDS, RADIUS, SHEET, RECORD, 26, BASE_RECORD, TRAILER, 8, 2, 8, PIECES, 2, 13 * 21, 13 * 21 * (MOST_PLOTS + 2), 0, 1, 0, 1};
+    const int named[] = {KX_MAP_LIMIT, KX_FOLD_LIMIT, KX_RADIUS_LIMIT, KX_SHEET_LIMIT, KX_OLD_LIMIT, KX_RECORD, KX_COUNTY_RECORD, KX_FEE_RECORD, KX_BASE_RECORD, KX_TRAILER, KX_BOUNDS, KX_START, KX_SIDES, KX_COUNTS, KX_PLACE, KX_LINE, KX_TEXT, KX_EXACT, KX_FILLED, KX_SPENT, KX_FINISHED};
+    const int wanted[] = {LIMIT, FOLDS, RADIUS, SHEET, OLD_LIMIT, RECORD, COUNTY_RECORD, FEE_RECORD, BASE_RECORD, TRAILER, 8, 2, 8, PIECES, 2, 13 * 21, 13 * 21 * (MOST_PLOTS + 2), 0, 1, 0, 1};
     if (memcmp(named, wanted, sizeof named))
         differ("the constants", NULL, NULL, 1, 0);
     const int refusals[] = {KX_NO_CELL, KX_OFF_MAP, KX_NOT_CLOSED, KX_NOTHING_LEFT, KX_TOO_MANY_FOLDS, KX_NO_VERTEX, KX_BAD_LENGTH,
         KX_BAD_TRAILER, KX_BAD_DISTANCE, KX_BAD_NUMBER, KX_NO_ROOM, KX_NO_RECORD, KX_NOT_FINITE, KX_NO_POINT, KX_HALF_POINT, KX_TOO_WIDE,
-        KX_TWO_RECORDS, KX_NO_ORIGIN, KX_NO_OTHER_CELL};
-    const uint32_t numbers[] = {1, 2, 3, 5, 6, 7, 8, 9, 10, 11, 12, 13, 14, 15, 16, 17, 18, 19, 20};
+        KX_TWO_RECORDS, KX_NO_ORIGIN, KX_NO_OTHER_CELL, KX_OFF_OLD_MAP};
+    const uint32_t numbers[] = {1, 2, 3, 5, 6, 7, 8, 9, 10, 11, 12, 13, 14, 15, 16, 17, 18, 19, 20, 21};
     for (int k = 0; k < (int)(sizeof numbers / sizeof *numbers); k++)
         if ((uint32_t)refusals[k] != numbers[k])
             differ("the numbers of the refusals", NULL, NULL, (uint32_t)refusals[k], numbers[k]);

@@ -33,11 +33,20 @@ answer normal(const int32_t c[8]) {
     return r;
 }
 
+/* The cells of a normal form, from its corners; row by row too where there are few rows, or where it is asked. The two have to agree. */
+static uint64_t cells_within(const int64_t c[8], int by_rows) {
+    uint64_t n = count_by_corners(c);
+    if ((by_rows || c[0] + c[4] < FEW_ROWS) && count_by_rows(c) != n)
+        differ("the two ways of the comparison itself", NULL, NULL, (uint32_t)count_by_rows(c), (uint32_t)n);
+    return n;
+}
+
+/* The count is lent between two other numbers. */
 static void compare_count(const int32_t c[8], const answer *r, int by_rows) {
     cells a;
-    uint32_t count = 77, got = kx_count(c, 8, &count);
-    int small = cells_of(c, &a), right = r->number ? count == 77 : small ? count == number_of(&a) : !by_rows || count == count_by_rows(r->c);
-    agree("kx_count", c, got, r->number, right);
+    uint64_t count[3] = {75, 77, 79}, want = r->number ? 77 : cells_of(c, &a) ? number_of(&a) : cells_within(r->c, by_rows);
+    uint32_t got = kx_count(c, 8, &count[1]);
+    agree("kx_count", c, got, r->number, count[0] == 75 && count[1] == want && count[2] == 79);
 }
 
 /* The sides between corners: each as long as its longer coordinate. */
@@ -100,7 +109,7 @@ void compare_one(const int32_t c[8], uint64_t round) {
     if (!r.number)
         corners_by_search(r.c, at);
     check("kx_normalise", c, NULL, kx_normalise(c, 8, cleared(out), 8), out, r);
-    compare_count(c, &r, round % 16 == 0);
+    compare_count(c, &r, round % 64 == 0);
     compare_to_outline(c, &r, at);
     compare_place(c, &r, at);
     compare_split(c, &r, at, round % 16 == 0);
@@ -109,9 +118,9 @@ void compare_one(const int32_t c[8], uint64_t round) {
 void compare_outline(void) {
     int32_t start[2], out[8];
     uint32_t n[8], longest = 0;
-    int small = any() % 2;
-    random_outline(start, n, small ? 6 : any() % 2 ? 3000 : 20000);
-    answer want = {.number = walk_refusal(start, n)};
+    static const uint32_t sizes[] = {6, 6, 6, 6, 3000, 20000, 600000, 2000000};
+    random_outline(start, n, sizes[any() % 8]);
+    answer want = {.number = walk_refusal(LIMIT, start, n)};
     if (!want.number) {
         bounds_of_walk(start, n, want.c);
         for (int k = 0; k < 8; k++)

@@ -72,7 +72,7 @@ uint32_t compare_insert(const plot *p, size_t room, size_t *len) {
     uint32_t want = sheet_after_insert(wanted, room, *len, p, &want_grown);
     uint32_t got = kx_sheet_insert(sheet, room, *len, p->number, p->start, 2, p->sides, 8, p->fee_row, &grown);
     agree("kx_sheet_insert", p->start, got, want, grown == want_grown && is_sheet(room, wanted));
-    widened += !got && f.each == BASE_RECORD;
+    widened += !got && f.each != RECORD;
     if (!got)
         *len = grown;
     return got;

@@ -2,19 +2,29 @@
  * lengths. */
 #include "compare.h"
 #include <stdio.h>
+#include <stdlib.h>
 #include <string.h>
 
-/* Places before and past a list that are compared with it; the longest list; a spectrum that is tried with every length; and the numbers
- * that a slice of bounds has room for. */
-enum { AROUND = 8, LONGEST = MOST_ENTRIES + 40, SHORT = 12, LENT = 16 };
+/* Places before and past a list that are compared with it; the longest list; and a spectrum that is tried with every length. */
+enum { AROUND = 8, LONGEST = MOST_ENTRIES + 40, SHORT = 12 };
 
-static uint32_t list[AROUND + LONGEST + AROUND];
+/* The list, with the places before and past it. */
+static uint64_t *list;
 
-/* What a place of the list or of the endings holds before a call, and one of the trims: no two hold the same, and no call is to write such a
- * number. */
-static uint32_t unwritten(size_t at) { return UINT32_C(0xc0000000) + (uint32_t)at; }
+/* What a place of the list holds before a call, and one of the endings and of the trims: no two hold the same, and no call is to write such
+ * a number, nor either half of one. */
+static uint64_t unwritten(size_t at) { return UINT64_C(0xc0000000d0000000) + at; }
+
+static uint32_t no_ending(int at) { return UINT32_C(0xe0000000) + (uint32_t)at; }
 
 static size_t no_trims(int at) { return SIZE_MAX - (size_t)at; }
+
+uint64_t *new_places(size_t count) {
+    uint64_t *places = malloc(count * sizeof *places);
+    if (!places)
+        differ("the memory of the comparison itself", NULL, NULL, 0, 0);
+    return places;
+}
 
 /* The trims and the ending of a call are lent between two other numbers each. */
 typedef struct {
@@ -25,14 +35,16 @@ typedef struct {
 static void unsay(told *t, size_t len) {
     for (int k = 0; k < 3; k++) {
         t->trims[k] = no_trims(k);
-        t->ending[k] = unwritten(sizeof list + (size_t)k);
+        t->ending[k] = no_ending(k);
     }
+    if (!list)
+        list = new_places(AROUND + LONGEST + AROUND);
     for (size_t i = 0; i < len + 2 * AROUND; i++)
         list[i] = unwritten(i);
 }
 
 /* Whether the first entries stand in their places, and in every other what stood there. */
-static int is_list(const uint32_t *entry, size_t written, size_t len) {
+static int is_list(const uint64_t *entry, size_t written, size_t len) {
     int same = 1;
     for (size_t i = 0; i < len + 2 * AROUND; i++)
         same &= list[i] == (i >= AROUND && i < AROUND + written ? entry[i - AROUND] : unwritten(i));
@@ -44,7 +56,7 @@ static int is_told(const told *t, int refused, size_t trims, uint32_t ending) {
     int same = 1;
     for (int k = 0; k < 3; k++) {
         same &= t->trims[k] == (k == 1 && !refused ? trims : no_trims(k));
-        same &= t->ending[k] == (k == 1 && !refused ? ending : unwritten(sizeof list + (size_t)k));
+        same &= t->ending[k] == (k == 1 && !refused ? ending : no_ending(k));
     }
     return same;
 }
@@ -77,8 +89,7 @@ static void compare_call(const int32_t p[LENT], size_t p_len, const int32_t f[LE
     count_spectrum(number, is_finished);
 }
 
-/* Every length from 0 to one past the last entry where there are few; else the lengths next to the ends, and any. */
-static void compare_list_lengths(const int32_t p[LENT], const int32_t f[LENT], const spectrum *want) {
+void compare_list_lengths(const int32_t p[LENT], const int32_t f[LENT], const spectrum *want) {
     const size_t last = want->number ? any() % 4 : want->count, ends[] = {0, 1, last - 1, last, last + 1, any() % (last + 40)};
     if (want->number || last <= SHORT)
         for (size_t len = 0; len <= last + 1; len++)
@@ -86,19 +97,18 @@ static void compare_list_lengths(const int32_t p[LENT], const int32_t f[LENT], c
     else
         for (int i = 0; i < 6; i++)
             compare_call(p, 8, f, 8, ends[i], want);
-    if (any() % 128 == 0)
+    if (any() % 16384 == 0)
         compare_call(p, 8, f, 8, LONGEST, want);
 }
 
-/* Finished entries sum to the plot's cells. */
-static void compare_sum(const int32_t p[LENT], const int32_t f[LENT], const spectrum *want) {
-    uint32_t cells = 0, number = kx_count(p, 8, &cells);
-    uint64_t sum = 0;
+void compare_sum(const int32_t p[LENT], const int32_t f[LENT], const spectrum *want) {
+    uint64_t cells = 0, sum = 0;
+    uint32_t number = kx_count(p, 8, &cells);
     compare_call(p, 8, f, 8, want->count, want);
     for (size_t i = 0; i < want->count; i++)
         sum += list[AROUND + i];
     if (number || sum != cells) {
-        printf("the entries sum to %llu, and the cells are %u\n", (unsigned long long)sum, cells);
+        printf("the entries sum to %llu, and the cells are %llu\n", (unsigned long long)sum, (unsigned long long)cells);
         differ("kx_count beside kx_spectrum", p, f, number, 0);
     }
     count_answer(number);
@@ -128,6 +138,10 @@ static void compare_slices(const int32_t p[LENT], const int32_t f[LENT], const s
 static const spectrum *worked_out(const int32_t p[8], const int32_t f[8]) {
     static spectrum by_cells, by_search;
     cells a, b;
+    if (!by_search.entry) {
+        by_cells.entry = new_places(MOST_ENTRIES);
+        by_search.entry = new_places(MOST_ENTRIES);
+    }
     spectrum_by_search(p, f, &by_search);
     if (!cells_of(p, &a) || !cells_of(f, &b))
         return &by_search;
@@ -154,30 +168,4 @@ void compare_spectrum(void) {
     compare_moved(p, f, want);
     entries += want->count;
     filled_entries += want->filled;
-}
-
-/* The whole map by a row or column of two cells or by a block: it stays whole up to the last fold. By two cells of a diagonal it loses two
- * cells, then four, and so on, until the diagonal of the map is left. */
-static void compare_whole(const int32_t f[LENT], size_t count, int is_slanted) {
-    static spectrum want;
-    const int32_t map[LENT] = {LIMIT, 2 * LIMIT, LIMIT, 2 * LIMIT, LIMIT, 2 * LIMIT, LIMIT, 2 * LIMIT};
-    want.count = count;
-    for (size_t n = 0; n + 1 < count; n++)
-        want.entry[n] = is_slanted ? 2 * ((uint32_t)n + 1) : 0;
-    want.entry[count - 1] = is_slanted ? MOST_ENTRIES : (uint32_t)MOST_ENTRIES * MOST_ENTRIES;
-    compare_list_lengths(map, f, &want);
-    compare_sum(map, f, &want);
-}
-
-void compare_known_spectra(void) {
-    const int32_t k1[LENT] = {0, 1, 1, 1, 0, 0, 0, 0}, k2[LENT] = {0, 0, 1, 2, 1, 0, 0, 0}, k3[LENT] = {0, 0, 0, 1, 1, 1, 0, 0}, k4[LENT] = {0, 0, 0, 0, 1, 2, 1, 0};
-    const int32_t block[LENT] = {1, 2, 1, 2, 1, 2, 1, 2}, k13[LENT] = {0, 0, 1, 2, 2, 2, 1, 0};
-    static spectrum filled_one = {.count = 2, .entry = {0, 5}};
-    compare_whole(k1, MOST_ENTRIES, 0);
-    compare_whole(k2, MOST_ENTRIES, 1);
-    compare_whole(k3, MOST_ENTRIES, 0);
-    compare_whole(k4, MOST_ENTRIES, 1);
-    compare_whole(block, LIMIT + 1, 0);
-    compare_list_lengths(k13, k4, &filled_one);
-    compare_list_lengths(k13, k2, &filled_one);
 }

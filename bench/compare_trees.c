@@ -4,7 +4,7 @@
 #include <string.h>
 
 /* The places that are lent stand after some that are not, and have others after them; all are compared. */
-enum { BEFORE = 8, LENT = 16, PLACES = 32 };
+enum { BEFORE = 8, PLACES = 32 };
 
 static void say_tree(const tree *t) { printf("tree %d %d, radius %u\n", t->x, t->y, t->radius); }
 

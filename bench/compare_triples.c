@@ -16,7 +16,7 @@ static int lies_inside(const int32_t less[8], const int32_t more[8]) {
 }
 
 static int has_no_more(const int32_t less[8], const int32_t more[8]) {
-    uint32_t m, n;
+    uint64_t m, n;
     return !kx_count(less, 8, &m) && !kx_count(more, 8, &n) && m <= n;
 }
 

@@ -1,4 +1,4 @@
-/* Random pairs of sheets to be joined: plots that one has, plots that both have, some of these altered in one; and damage. */
+/* Random pairs of sheets to be joined: plots that one has, plots that both have, and some of these altered in one. */
 #include "compare.h"
 
 /* The turn from step k to step m: 0 where they lie on one line. */
@@ -16,20 +16,12 @@ static void alter_sides(uint32_t n[8], int32_t by) {
     n[c] += (uint32_t)(by * turn(a, b));
 }
 
-/* Whether a sheet can hold a plot. */
-static int is_sound(const plot *p) {
-    int fits = !walk_refusal(p->start, p->sides);
-    for (int k = 0; k < 8; k++)
-        fits &= p->sides[k] <= UINT16_MAX;
-    return fits;
-}
-
-void alter_plot(plot *p, int has_fee_row) {
-    static const int32_t amounts[] = {1, -1, 256, -256};
+void alter_plot(plot *p, uint32_t each) {
+    static const int32_t amounts[] = {1, -1, 256, -256, 65536, -65536};
     plot q;
     do {
-        int32_t by = amounts[any() % 4];
-        uint32_t field = any() % (has_fee_row ? 6 : 5);
+        int32_t by = amounts[any() % 6];
+        uint32_t field = any() % (each == BASE_RECORD ? 5 : 6);
         q = *p;
         if (field < 2)
             q.start[field] += by;
@@ -37,7 +29,7 @@ void alter_plot(plot *p, int has_fee_row) {
             alter_sides(q.sides, by);
         else
             q.fee_row = (uint16_t)(q.fee_row + by);
-    } while (!is_sound(&q));
+    } while (walk_refusal(limit_of(each), q.start, q.sides) || same_plot(&q, p));
     *p = q;
 }
 
@@ -48,6 +40,14 @@ static void give(dealt *d, int to, plot p) {
     d->plots[to][d->count[to]++] = p;
 }
 
+/* Another plot under the same number, of those that only a record of 46 holds or of any. */
+static plot elsewhere(plot p) {
+    uint32_t number = p.number;
+    sound_plot(&p, COUNTY_RECORD);
+    p.number = number;
+    return p;
+}
+
 /* Gives a plot to both, as it is or altered in one of them. Where one of them has base records, the other mostly has the fee row 0. */
 static void give_both(dealt *d, plot p, int altered) {
     plot given[2] = {p, p};
@@ -55,7 +55,7 @@ static void give_both(dealt *d, plot p, int altered) {
     if ((base[0] || base[1]) && (altered || any() % 16))
         given[0].fee_row = given[1].fee_row = 0;
     if (altered)
-        alter_plot(&given[to], !base[to]);
+        alter_plot(&given[to], d->each[to]);
     give(d, 0, given[0]);
     give(d, 1, given[1]);
 }
@@ -81,17 +81,20 @@ static void number_alike(plot *p, uint32_t count) {
 void random_deal(dealt *d) {
     plot p[DEALT];
     uint32_t count = any() % 4 ? any() % 6 : any() % (DEALT + 1), kind = any() % 10, altered = any() % 3 ? DEALT : any() % (count + 1);
-    random_plots(p, count);
+    random_plots(p, count, BASE_RECORD);
     if (any() % 4 == 0)
         number_alike(p, count);
     for (int k = 0; k < 2; k++) {
         d->count[k] = 0;
-        d->each[k] = any() % 2 ? BASE_RECORD : RECORD;
+        d->each[k] = any_length();
         d->heading[k] = any() % 4 ? any() % 12 : any() % DEALT_HEADING;
     }
     d->numbers = count;
     for (uint32_t k = 0; k < count; k++) {
         uint32_t way = kind < 3 ? kind : any() % 6; /* all to the first, all to the second, all to both, or each to any */
+        int is_wide = way < 2 ? d->each[way] == COUNTY_RECORD : d->each[0] == COUNTY_RECORD && d->each[1] == COUNTY_RECORD;
+        if (is_wide && any() % 2)
+            p[k] = elsewhere(p[k]);
         if (way < 2)
             give(d, (int)way, p[k]);
         else if (way < 5)
@@ -100,26 +103,4 @@ void random_deal(dealt *d) {
             give_twice(d, p[k]);
         d->numbers += way == 5;
     }
-}
-
-/* Spoils record k of those of `each` bytes: its number is 0 or not above the one before, it does not close, or it leaves the map. */
-static void spoil_record(uint8_t *r, uint32_t each, uint32_t k) {
-    uint32_t field = any() % 2;
-    switch (any() % 3) {
-    case 0: put_number(r, 4, k == 0 || any() % 3 == 0 ? 0 : number_at(r - each, 4) - field); break;
-    case 1: r[8 + 2 * (any() % 8)] ^= 1; break;
-    default: put_number(r + 4 + 2 * field, 2, any() % 2 ? LIMIT + 1 : (uint32_t)(-LIMIT - 1)); break;
-    }
-}
-
-void spoil_dealt(uint8_t *s, const dealt *d, int of, size_t *len) {
-    uint32_t kind = any() % 8, each = d->each[of], k = d->count[of] ? any() % d->count[of] : 0;
-    if (kind < 4 && d->count[of])
-        spoil_record(s + d->heading[of] + (size_t)each * k, each, k);
-    else if (kind < 6)
-        spoil_trailer(s, *len);
-    else if (kind == 6)
-        spoil_bytes(s, *len);
-    else
-        *len = any() % 3 ? *len + RECORD - any() % 53 : any() % 2 ? any() % TRAILER : any() % 70000;
 }

@@ -2,8 +2,8 @@
 #include "compare.h"
 #include <string.h>
 
-/* Twice the map's limit: no bound that a cell of the map reaches is farther. */
-enum { FARTHEST = 2 * LIMIT };
+/* Twice the map's limit: no bound that a cell of the map reaches is farther. And the rows of a plot that a frame of few rows breaks up. */
+enum { FARTHEST = 2 * LIMIT, FEW = 2000 };
 
 static int32_t clamped(int64_t bound) { return bound > FARTHEST ? FARTHEST : bound < -FARTHEST ? -FARTHEST : (int32_t)bound; }
 
@@ -66,7 +66,7 @@ static void random_frame(int32_t f[8]) {
     else if (kind == 4)
         random_bounds(f, rising ? 8 : 3, 0);
     else if (kind == 5)
-        about_origin(f, LIMIT >> any() % 8);
+        about_origin(f, LIMIT >> any() % 16);
     else if (kind < 8)
         row_through_origin(f, from(1, 3), rising);
     else
@@ -101,7 +101,7 @@ static void random_plot_of(int32_t p[8], const int32_t f[8]) {
  * of as many cells along the frame, of which half come to it. Most are small. */
 static void random_filled(int32_t p[8], int32_t f[8]) {
     int rising = (int)(any() % 2), small = any() % 8 != 0;
-    int32_t steps = from(1, small ? 3 : 200), folds = from(1, small ? 4 : 60), length = from(1, small ? 7 : 3000), size = from(4, small ? 14 : 9000);
+    int32_t steps = from(1, small ? 3 : 20000), folds = from(1, small ? 4 : 60), length = from(1, small ? 7 : 300000), size = from(4, small ? 14 : 900000);
     row_through_origin(f, steps, rising);
     row(p, length, !rising);
     for (int k = 0; k < 8; k++)
@@ -115,16 +115,19 @@ static void random_filled(int32_t p[8], int32_t f[8]) {
         move_on_map(p);
 }
 
-/* A plot of up to the whole map, and a frame of few rows: up to as many folds as the plot has rows or columns. */
+/* A plot of up to the whole map, and a frame of few rows, which is made larger where the plot has more than FEW: up to some thousand folds. */
 static void random_wide(int32_t p[8], int32_t f[8]) {
     int32_t size = from(24, LIMIT);
-    size >>= any() % 8;
+    size >>= any() % 12;
+    int32_t larger = 1 + size / FEW;
     for (int k = 0; k < 8; k++)
         p[k] = k % 2 ? size + from(0, size) : size;
     move_anywhere(p, LIMIT - size);
     do
         random_frame(f);
     while (f[0] > 3 || f[4] > 3);
+    for (int k = 0; k < 8; k++)
+        f[k] = clamped((int64_t)larger * f[k]);
 }
 
 /* No cell, so that opposite bounds pass each other, or by halves; or cells past an edge of the map, with or without (0, 0). */

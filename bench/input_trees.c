@@ -33,11 +33,11 @@ static int32_t far_off(int32_t radius) {
 /* A coordinate of the centre: where the tree touches an edge of the map or nearly does, at or next to the edge, far off, near the
  * middle, or anywhere on the map. */
 static int32_t coordinate(int32_t radius) {
-    int32_t side = any() % 2 ? 1 : -1;
+    int32_t side = any() % 2 ? 1 : -1, limit = edge();
     switch (any() % 8) {
     case 0:
-    case 1: return side * (LIMIT - radius + from(-2, 2));
-    case 2: return side * (LIMIT + from(-2, 2));
+    case 1: return side * (limit - radius + from(-2, 2));
+    case 2: return side * (limit + from(-2, 2));
     case 3: return far_off(radius);
     case 4: return from(-8, 8);
     default: return from(-LIMIT, LIMIT);

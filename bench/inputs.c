@@ -1,4 +1,4 @@
-/* Random and damaged inputs, from a fixed seed. */
+/* Random numbers, bounds and tapes, from a fixed seed. */
 #include "compare.h"
 #include <float.h>
 #include <math.h>
@@ -15,8 +15,11 @@ uint32_t any(void) {
 
 int32_t from(int32_t low, int32_t high) { return (int32_t)(low + (int64_t)(any() % (uint32_t)(high - low + 1))); }
 
-static int32_t extreme(void) {
-    static const int32_t at[] = {INT32_MIN, INT32_MIN + 1, -1000000, -32001, -32000, -16001, -16000, -1, 0, 1, 15999, 16000, 16001, 32000, 32001, 1000000, INT32_MAX - 1, INT32_MAX};
+int32_t edge(void) { return any() % 4 ? LIMIT : OLD_LIMIT; }
+
+int32_t extreme(void) {
+    static const int32_t at[] = {INT32_MIN, INT32_MIN + 1, -1000000000, -4000001, -4000000, -2000001, -2000000, -16001, -16000, -1, 0,
+                                 1, 15999, 16000, 16001, 1999999, 2000000, 2000001, 4000000, 4000001, 1000000000, INT32_MAX - 1, INT32_MAX};
     return any() % 4 ? at[any() % (sizeof at / sizeof *at)] : (int32_t)any();
 }
 
@@ -36,41 +39,15 @@ void random_bounds(int32_t c[8], int size, int row) {
         c[(k + 4) % 8] = -c[k] + (any() % 4 == 0);
     }
     if (any() % 2) {
-        x = any() % 3 ? from(-1, 1) * (LIMIT - from(-3, size)) : from(-LIMIT, LIMIT);
-        y = any() % 3 ? from(-1, 1) * (LIMIT - from(-3, size)) : from(-LIMIT, LIMIT);
+        x = any() % 3 ? from(-1, 1) * (edge() - from(-3, size)) : from(-LIMIT, LIMIT);
+        y = any() % 3 ? from(-1, 1) * (edge() - from(-3, size)) : from(-LIMIT, LIMIT);
     }
     for (int k = 0; k < 8; k++)
         c[k] += (int32_t)reach(k, x, y);
     if (any() % 4 == 0)
-        c[any() % 8] = any() % 2 ? INT32_MAX : c[0] + from(0, 100000);
+        c[any() % 8] = any() % 2 ? INT32_MAX : c[0] + from(0, 10000000);
     if (any() % 16 == 0)
         c[any() % 8] = extreme();
-}
-
-void random_outline(int32_t start[2], uint32_t n[8], uint32_t size) {
-    for (int k = 0; k < 8; k++)
-        n[k] = any() % (size + 1);
-    /* two sides that mostly close the walk */
-    int64_t across = (int64_t)n[3] + n[4] + n[5] - n[1] - n[7], upward = (int64_t)n[5] + n[6] + n[7] - n[1] - n[3];
-    n[0] = across >= 0 ? (uint32_t)across : 0;
-    n[4] += across >= 0 ? 0 : (uint32_t)-across;
-    n[2] = upward >= 0 ? (uint32_t)upward : 0;
-    n[6] += upward >= 0 ? 0 : (uint32_t)-upward;
-    if (any() % 8 == 0)
-        n[any() % 8] += any() % 2 ? 1 : any() % 3 ? any() % 70000 : any();
-    for (int k = 0; k < 2; k++)
-        start[k] = any() % 2 ? from(-20, 20) : any() % 8 ? from(-LIMIT - 5, LIMIT + 5) : extreme();
-}
-
-void random_plot(plot *p) {
-    random_outline(p->start, p->sides, 6);
-    for (int k = 0; k < 2; k++)
-        if (p->start[k] < INT16_MIN || p->start[k] > INT16_MAX)
-            p->start[k] = from(-100, 100);
-    for (int k = 0; k < 8; k++)
-        p->sides[k] &= any() % 64 ? 0xffff : 0xffffffff;
-    p->number = any() % 16 ? any() % 64 : any();
-    p->fee_row = random_fee_row();
 }
 
 /* The number so many steps above another, where that is not nought. */
@@ -94,7 +71,7 @@ static double any_number(void) {
 static double near_edge(int32_t n) { return stepped((double)(2 * n - 1) / 8, any() % 2 ? 0 : from(-3, 3)); }
 
 /* A coordinate of the map, with many bits of fraction. */
-static double anywhere(void) { return from(-1000000000, 1000000000) * 4e-6; }
+static double anywhere(void) { return from(-1000000000, 1000000000) * 5e-4; }
 
 /* A coordinate of the map: at an edge of a cell, next to nought, or anywhere. */
 static double coordinate(void) {

@@ -1,4 +1,4 @@
-/* The listing of a sheet, by printf from its plots; their cells are counted row by row. */
+/* The listing of a sheet, by printf from its plots; their cells are counted row by row, and from the corners where a plot has many rows. */
 #include "oracle.h"
 #include <stdio.h>
 
@@ -6,7 +6,7 @@
 static uint64_t cells_inside(const plot *p) {
     int64_t c[8];
     bounds_of_walk(p->start, p->sides, c);
-    return count_by_rows(c);
+    return c[0] + c[4] < FEW_ROWS ? count_by_rows(c) : count_by_corners(c);
 }
 
 size_t listing_of(const uint8_t *s, size_t room, size_t len, char *text) {

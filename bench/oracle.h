@@ -1,6 +1,6 @@
 /* What documents 01 and 02 say of each call, worked out without the library's formulas: by sets of cells on a window of the grid
  * (cells.c), by walking outlines (walks.c), by searching the rows and columns of any eight bounds (search.c), by the rule of the
- * pieces (splits.c), by bytes (sheets.c), by a sorted list of plots (joins.c), by printf (listings.c), from the bits of a number
+ * pieces (splits.c), by bytes (sheets.c, conversions.c), by a sorted list of plots (joins.c), by printf (listings.c), from the bits of a number
  * (tapes.c), by the squares of distances (trees.c) and by opening a plot fold by fold, cell by cell (spectra.c). Sums, differences and multiples of
  * bounds too large for sets of cells are the library's. */
 #ifndef ORACLE_H
@@ -11,8 +11,10 @@
 /* Document 01's steps. */
 extern const int STEP[8][2];
 
-/* The limits and lengths of documents 01 and 02: a record ends with a fee row, a base record has none. */
-enum { LIMIT = 16000, FOLDS = 65535, RADIUS = 255, SHEET = 65536, RECORD = 26, BASE_RECORD = 24, TRAILER = 16, PIECES = 13 };
+/* The limits and lengths of documents 01 and 02. A record of 24 or 26 lies on the old map, and has numbers of 16 bits but for the plot
+ * number; one of 46 lies on the map, and has numbers of 32 bits. A record ends with a fee row, but that of 24, which has none. */
+enum { LIMIT = 2000000, OLD_LIMIT = 16000, FOLDS = 4000001, RADIUS = 255, SHEET = 65536, TRAILER = 16, PIECES = 13 };
+enum { BASE_RECORD = 24, FEE_RECORD = 26, COUNTY_RECORD = 46, RECORD = COUNTY_RECORD };
 /* The most records of a sheet, and the most entries of a spectrum: as many as the map has columns. */
 enum { MOST_PLOTS = (SHEET - TRAILER) / BASE_RECORD, MOST_ENTRIES = 2 * LIMIT + 1 };
 
@@ -44,11 +46,11 @@ typedef struct {
 } frame;
 
 /* What a plot and the frame that opens it give: a number, and where it is 0 the entries up to the last one, and how many of them are worked
- * out from a filled opening. */
+ * out from a filled opening. There is room for MOST_ENTRIES of them. */
 typedef struct {
     uint32_t number;
     size_t count, filled;
-    uint32_t entry[MOST_ENTRIES];
+    uint64_t *entry;
 } spectrum;
 
 /* A sheet that is only read: its buffer, the bytes of that, and the bytes of the sheet. */
@@ -97,8 +99,8 @@ int same_cells(const cells *a, const cells *b);
 
 /* ---- by walking */
 
-/* 0, or the outline's refusal: 3, then 2. */
-uint32_t walk_refusal(const int32_t start[2], const uint32_t sides[8]);
+/* 0, or the outline's refusal on a map with this limit: 3, then 2. */
+uint32_t walk_refusal(int64_t limit, const int32_t start[2], const uint32_t sides[8]);
 /* The bounds that the corners of a walk reach. */
 void bounds_of_walk(const int32_t start[2], const uint32_t sides[8], int64_t c[8]);
 /* The cells on and inside a walk of few steps that closes. */
@@ -115,7 +117,11 @@ answer opening_by_search(const int32_t p[8], const int32_t f[8]);
 answer closing_by_search(const int32_t p[8], const int32_t f[8]);
 /* The corners of normalised bounds, from their lowest and highest rows and columns. */
 void corners_by_search(const int64_t c[8], int64_t at[8][2]);
+/* How many rows are counted one by one wherever there are so few. */
+enum { FEW_ROWS = 4096 };
+/* The cells within normalised bounds: row by row, and from the corners of the outline alone. */
 uint64_t count_by_rows(const int64_t c[8]);
+uint64_t count_by_corners(const int64_t c[8]);
 /* Whether normalised bounds are those of opposed rows. */
 int are_opposed_bounds(const int64_t a[8], const int64_t b[8]);
 
@@ -133,6 +139,9 @@ void rebuilt(const int32_t start[2], const uint32_t k[PIECES], cells *out);
 /* A number of so many bytes, the least first. */
 uint32_t number_at(const uint8_t *s, int width);
 void put_number(uint8_t *s, int width, uint32_t v);
+/* The limit of the map of a record of so many bytes, and how many bytes each of its coordinates and sides has. */
+int64_t limit_of(uint32_t each);
+int width_of(uint32_t each);
 /* What a sheet's length and trailer say: 8, 9, 10, or 0 and the frame. */
 uint32_t sheet_frame(const uint8_t *s, size_t room, size_t len, frame *f);
 /* Record k of a frame, and whether two plots have the same numbers. */
@@ -148,6 +157,8 @@ uint32_t sheet_after_start(uint8_t *s, size_t room, size_t heading, size_t *len)
 uint32_t sheet_after_insert(uint8_t *s, size_t room, size_t len, const plot *p, size_t *grown);
 /* Joins two sheets in a buffer of `room` bytes, and tells the new length and how many plots are in both. */
 uint32_t sheet_after_join(const half *first, const half *second, uint8_t *joined, size_t room, size_t *len, uint32_t *in_both);
+/* Copies a sheet at 26 into a buffer of `room` bytes, and tells the new length and the frame of the sheet. */
+uint32_t sheet_after_convert(const half *first, uint8_t *second, size_t room, size_t *len, frame *f);
 /* The listing of a sheet, and its length. */
 size_t listing_of(const uint8_t *s, size_t room, size_t len, char *text);
 

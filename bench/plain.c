@@ -1,4 +1,5 @@
-/* The calls on octagons of bindings/koxirmeta.h in plain C, by the same formulas; plain_folds.c has the n-fold ones. */
+/* The calls on octagons of bindings/koxirmeta.h in plain C, by the same formulas; plain_folds.c has the n-fold ones, plain_outlines.c those on
+ * outlines, plain_spectra.c the spectrum. */
 #include "plain_octagons.h"
 #include <string.h>
 
@@ -40,7 +41,7 @@ uint32_t plain_normalise(const int32_t *bounds, size_t bounds_len, int32_t *out,
     return normalise(bounds, out);
 }
 
-uint32_t plain_cells(const int32_t bounds[8], uint32_t *cells) {
+uint32_t plain_cells(const int32_t bounds[8], uint64_t *cells) {
     int32_t a[8];
     uint32_t refused = normalise(bounds, a);
     if (refused)
@@ -49,7 +50,7 @@ uint32_t plain_cells(const int32_t bounds[8], uint32_t *cells) {
     return 0;
 }
 
-uint32_t plain_count(const int32_t *bounds, size_t bounds_len, uint32_t *cells) {
+uint32_t plain_count(const int32_t *bounds, size_t bounds_len, uint64_t *cells) {
     if (bounds_len != 8)
         return WRONG_LENGTH;
     return plain_cells(bounds, cells);
@@ -144,10 +145,7 @@ uint32_t plain_decompose(const int32_t *bounds, size_t bounds_len, int32_t *star
     uint32_t refused = normalise(bounds, a);
     if (refused)
         return refused;
-    for (int k = 0; k < 8; k++)
-        n[k] = (uint32_t)(a[(k + 7) % 8] + a[(k + 1) % 8] - (k % 2 ? a[k] : 2 * a[k]));
-    start[0] = a[0] - a[7];
-    start[1] = -a[0];
+    outline_of(a, start, n);
     split(n, counts);
     return 0;
 }

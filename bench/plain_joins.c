@@ -1,6 +1,6 @@
 /* The join of two sheets in plain C: both are checked, one pass along the records of both counts those that are kept, and another
  * writes them. */
-#include "plain_bytes.h"
+#include "plain_records.h"
 
 /* Records of a sheet that was checked: the next one, where they end, and the bytes of each. */
 typedef struct {
@@ -14,11 +14,12 @@ static records records_of(const uint8_t *sheet, size_t len, uint32_t count) {
     return (records){end - each * count, end, each};
 }
 
-static uint32_t fee_row_of(const uint8_t *r, size_t each) { return each == RECORD ? u16_at(r + BASE_RECORD) : 0; }
-
-/* Whether the next record of either has the same outline and fee row. */
+/* Whether the next record of either has the same outline and fee row: by their bytes where they have one length. */
 static int is_same(const records *p, const records *q) {
-    return memcmp(p->next + 4, q->next + 4, BASE_RECORD - 4) == 0 && fee_row_of(p->next, p->each) == fee_row_of(q->next, q->each);
+    if (p->each == q->each)
+        return memcmp(p->next + 4, q->next + 4, p->each - 4) == 0;
+    outline a = outline_at(p->next, p->each), b = outline_at(q->next, q->each);
+    return memcmp(&a, &b, sizeof a) == 0 && fee_row_at(p->next, p->each) == fee_row_at(q->next, q->each);
 }
 
 /* How many plots are in both; or one number has two records. */
@@ -42,15 +43,18 @@ static uint32_t count_both(records p, records q, uint32_t *both) {
     return 0;
 }
 
-static void put_record(uint8_t *to, const uint8_t *r, size_t each) {
-    memcpy(to, r, BASE_RECORD);
-    put_u16(to + BASE_RECORD, fee_row_of(r, each));
+/* Writes a record of `each` bytes with 46. */
+static inline void put_row(uint8_t *to, const uint8_t *r, size_t each) {
+    if (each == RECORD)
+        memcpy(to, r, RECORD);
+    else
+        widen_record(to, r, each);
 }
 
 /* Writes all records that are left of a sheet. */
 static void put_rest(uint8_t *to, const records *p) {
     for (const uint8_t *r = p->next; r != p->end; r += p->each, to += RECORD)
-        put_record(to, r, p->each);
+        put_row(to, r, p->each);
 }
 
 /* Writes the records of both by rising number, and those of a plot in both once. */
@@ -58,12 +62,12 @@ static void put_both(uint8_t *to, records p, records q) {
     for (; p.next != p.end && q.next != q.end; to += RECORD) {
         uint32_t a = u32_at(p.next), b = u32_at(q.next);
         if (a <= b) {
-            put_record(to, p.next, p.each);
+            put_row(to, p.next, p.each);
             p.next += p.each;
             if (a == b)
                 q.next += q.each;
         } else {
-            put_record(to, q.next, q.each);
+            put_row(to, q.next, q.each);
             q.next += q.each;
         }
     }
@@ -84,7 +88,7 @@ uint32_t plain_sheet_join(const uint8_t *first, size_t first_room, size_t first_
         return NO_ROOM;
     memcpy(joined, first, heading);
     put_both(joined + heading, p, q);
-    put_trailer(joined + next - TRAILER, count);
+    put_trailer(joined + next - TRAILER, RECORD, count);
     *len = next;
     return 0;
 }

@@ -1,4 +1,4 @@
-/* The normal form of eight bounds, the cells within one, and opposed rows: what the calls on octagons in plain C share. */
+/* The normal form of eight bounds, the cells and the outline of one, and opposed rows: what the calls on octagons in plain C share. */
 #ifndef PLAIN_OCTAGONS_H
 #define PLAIN_OCTAGONS_H
 #include "plain.h"
@@ -44,9 +44,17 @@ NORMAL_FORM(normalise_wide, int64_t)
 SHARED uint64_t triangle(int64_t n) { return (uint64_t)n * ((uint64_t)n + 1) / 2; }
 
 /* The cells within normalised bounds. */
-SHARED uint32_t area(const int32_t a[8]) {
+SHARED uint64_t area(const int32_t a[8]) {
     uint64_t height = (uint64_t)(a[0] + a[4] + 1), width = (uint64_t)(a[6] + a[2] + 1);
-    return (uint32_t)(height * width - triangle(a[0] + a[2] - a[1]) - triangle(a[2] + a[4] - a[3]) - triangle(a[4] + a[6] - a[5]) - triangle(a[6] + a[0] - a[7]));
+    return height * width - triangle(a[0] + a[2] - a[1]) - triangle(a[2] + a[4] - a[3]) - triangle(a[4] + a[6] - a[5]) - triangle(a[6] + a[0] - a[7]);
+}
+
+/* The outline of normalised bounds: its start, and its sides. */
+SHARED void outline_of(const int32_t a[8], int32_t start[2], uint32_t n[8]) {
+    for (int k = 0; k < 8; k++)
+        n[k] = (uint32_t)(a[(k + 7) % 8] + a[(k + 1) % 8] - (k % 2 ? a[k] : 2 * a[k]));
+    start[0] = a[0] - a[7];
+    start[1] = -a[0];
 }
 
 /* The normal forms of both operands, or the number of the refusal: all of the first's come before the second's. */

@@ -12,7 +12,7 @@ static uint32_t origin_refusal(const int32_t b[8]) {
 }
 
 /* The cells of a plot that is opened by so many folds of an element, all of them normal forms; none where nothing is left. */
-static uint32_t opened_cells(const int32_t a[8], const int32_t folds[8]) {
+static uint64_t opened_cells(const int32_t a[8], const int32_t folds[8]) {
     int32_t c[8], left[8];
     for (int k = 0; k < 8; k++)
         c[k] = a[k] - folds[k];
@@ -24,14 +24,14 @@ static uint32_t opened_cells(const int32_t a[8], const int32_t folds[8]) {
 }
 
 /* The entries of a plot by an element, as many as there are or as the list has room for; and whether the last of them is among these. */
-static size_t list_entries(const int32_t a[8], const int32_t b[8], uint32_t *list, size_t list_len, uint32_t *ending) {
+static size_t list_entries(const int32_t a[8], const int32_t b[8], uint64_t *list, size_t list_len, uint32_t *ending) {
     int32_t folds[8] = {0};
-    uint32_t more = area(a);
+    uint64_t more = area(a);
     size_t n = 0;
     while (n < list_len && more) {
         for (int k = 0; k < 8; k++)
             folds[k] += b[k];
-        uint32_t less = opened_cells(a, folds);
+        uint64_t less = opened_cells(a, folds);
         list[n++] = more - less;
         more = less;
     }
@@ -39,7 +39,7 @@ static size_t list_entries(const int32_t a[8], const int32_t b[8], uint32_t *lis
     return n;
 }
 
-uint32_t plain_spectrum(const int32_t *plot, size_t plot_len, const int32_t *element, size_t element_len, uint32_t *list, size_t list_len, size_t *trims, uint32_t *ending) {
+uint32_t plain_spectrum(const int32_t *plot, size_t plot_len, const int32_t *element, size_t element_len, uint64_t *list, size_t list_len, size_t *trims, uint32_t *ending) {
     int32_t a[8], b[8];
     if (plot_len != 8 || element_len != 8)
         return WRONG_LENGTH;

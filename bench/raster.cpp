@@ -1,21 +1,25 @@
 /* The spectrum of a plot of 512 by 512 cells by a block of 3 by 3, beside a raster library: OpenCV erodes an image of the plot once more for
- * each entry, dilates what is left as often as it was eroded, and counts. Both have to list the same entries; each time is the least of some
- * turns, on one thread. */
+ * each entry, dilates what is left as often as it was eroded, and counts. Both have to list the same entries; each time is the least
+ * processor time of some turns, on one thread. */
 #include "../bindings/koxirmeta.h"
-#include <chrono>
 #include <cstdio>
 #include <cstdlib>
+#include <ctime>
 #include <opencv2/imgproc.hpp>
 #include <vector>
 
-typedef std::vector<uint32_t> entries;
+typedef std::vector<uint64_t> entries;
 
 /* The cells across the plot, and empty ones about it, so that it is eroded at every edge. */
 enum { ACROSS = 512, MARGIN = 1, SIDE = ACROSS + 2 * MARGIN, TURNS = 200, RASTER_TURNS = 20 };
 
 static const int32_t block[8] = {1, 2, 1, 2, 1, 2, 1, 2};
 
-static double now() { return std::chrono::duration<double, std::micro>(std::chrono::steady_clock::now().time_since_epoch()).count(); }
+static double now() {
+    timespec t;
+    clock_gettime(CLOCK_PROCESS_CPUTIME_ID, &t);
+    return 1e6 * (double)t.tv_sec + 1e-3 * (double)t.tv_nsec;
+}
 
 /* The cells from (0, 0) to (511, 511), with so many cells of each side cut off at each corner. */
 static void square(int32_t c[8], int32_t cut) {
@@ -45,7 +49,7 @@ static entries by_raster(const cv::Mat &image) {
         cv::swap(left, trimmed);
         cv::dilate(left, opened, cv::Mat(), middle, folds);
         less = cv::countNonZero(opened);
-        list.push_back((uint32_t)(more - less));
+        list.push_back((uint64_t)(more - less));
     }
     return list;
 }

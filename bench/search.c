@@ -1,5 +1,6 @@
 /* Any eight bounds, by searching their rows and columns: no sum of bounds is halved, and none is tightened by another. */
 #include "oracle.h"
+#include <stdlib.h>
 #include <string.h>
 
 typedef __int128 wide;
@@ -165,4 +166,18 @@ uint64_t count_by_rows(const int64_t c[8]) {
         if (row_low(c, y) <= row_high(c, y))
             n += (uint64_t)(row_high(c, y) - row_low(c, y) + 1);
     return n;
+}
+
+static int64_t longer(int64_t a, int64_t b) { return llabs(a) > llabs(b) ? llabs(a) : llabs(b); }
+
+/* The area, half of the steps along the outline, and one, by Pick's theorem. */
+uint64_t count_by_corners(const int64_t c[8]) {
+    int64_t at[8][2], area_twice = 0, steps = 0;
+    corners_by_search(c, at);
+    for (int k = 0; k < 8; k++) {
+        const int64_t *u = at[k], *v = at[(k + 1) % 8];
+        area_twice += u[0] * v[1] - u[1] * v[0];
+        steps += longer(v[0] - u[0], v[1] - u[1]);
+    }
+    return (uint64_t)((area_twice + steps) / 2 + 1);
 }

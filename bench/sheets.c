@@ -16,15 +16,28 @@ void put_number(uint8_t *s, int width, uint32_t v) {
 
 /* ---- reading */
 
+int64_t limit_of(uint32_t each) { return each == COUNTY_RECORD ? LIMIT : OLD_LIMIT; }
+
+int width_of(uint32_t each) { return each == COUNTY_RECORD ? 4 : 2; }
+
+static int is_record_length(uint32_t each) { return each == BASE_RECORD || each == FEE_RECORD || each == COUNTY_RECORD; }
+
+/* A signed number of two bytes or of four, in two's complement. */
+static int32_t signed_at(const uint8_t *s, int width) {
+    int64_t v = number_at(s, width), above = (int64_t)1 << (8 * width);
+    return (int32_t)(v < above / 2 ? v : v - above);
+}
+
 plot record_in(const uint8_t *s, const frame *f, uint32_t k) {
     const uint8_t *r = s + f->first + (size_t)f->each * k;
+    const int w = width_of(f->each);
     plot p;
     p.number = number_at(r, 4);
-    p.start[0] = (int16_t)number_at(r + 4, 2);
-    p.start[1] = (int16_t)number_at(r + 6, 2);
+    p.start[0] = signed_at(r + 4, w);
+    p.start[1] = signed_at(r + 4 + w, w);
     for (int n = 0; n < 8; n++)
-        p.sides[n] = number_at(r + 8 + 2 * n, 2);
-    p.fee_row = f->each == RECORD ? (uint16_t)number_at(r + 24, 2) : 0;
+        p.sides[n] = number_at(r + 4 + (n + 2) * w, w);
+    p.fee_row = f->each == BASE_RECORD ? 0 : (uint16_t)number_at(r + 4 + 10 * w, 2);
     return p;
 }
 
@@ -37,7 +50,7 @@ uint32_t sheet_frame(const uint8_t *s, size_t room, size_t len, frame *f) {
         return 8;
     const uint8_t *t = s + len - TRAILER;
     uint32_t each = number_at(t + 8, 2);
-    if (memcmp(t + 12, "GRND", 4) || (each != BASE_RECORD && each != RECORD) || t[10] || t[11])
+    if (memcmp(t + 12, "GRND", 4) || !is_record_length(each) || t[10] || t[11])
         return 9;
     uint64_t distance = number_at(t, 4), count = number_at(t + 4, 4);
     if (distance != each * count || distance > len - TRAILER)
@@ -55,7 +68,7 @@ uint32_t sheet_checked(const uint8_t *s, size_t room, size_t len, frame *f) {
         plot p = record_in(s, &found, k);
         if (p.number == 0 || (k > 0 && p.number <= last))
             return 11;
-        refused = walk_refusal(p.start, p.sides);
+        refused = walk_refusal(limit_of(found.each), p.start, p.sides);
         if (refused)
             return refused;
         last = p.number;
@@ -87,13 +100,14 @@ uint32_t sheet_read(const uint8_t *s, size_t room, size_t len, uint32_t k, plot 
 /* ---- writing */
 
 static void put_record(uint8_t *s, uint32_t each, const plot *p) {
+    const int w = width_of(each);
     put_number(s, 4, p->number);
-    put_number(s + 4, 2, (uint32_t)p->start[0]);
-    put_number(s + 6, 2, (uint32_t)p->start[1]);
+    put_number(s + 4, w, (uint32_t)p->start[0]);
+    put_number(s + 4 + w, w, (uint32_t)p->start[1]);
     for (int n = 0; n < 8; n++)
-        put_number(s + 8 + 2 * n, 2, p->sides[n]);
-    if (each == RECORD)
-        put_number(s + 24, 2, p->fee_row);
+        put_number(s + 4 + (n + 2) * w, w, p->sides[n]);
+    if (each != BASE_RECORD)
+        put_number(s + 4 + 10 * w, 2, p->fee_row);
 }
 
 size_t put_sheet(uint8_t *s, size_t heading, uint32_t each, const plot *p, uint32_t count) {
@@ -120,7 +134,7 @@ uint32_t sheet_after_start(uint8_t *s, size_t room, size_t heading, size_t *len)
 uint32_t sheet_after_insert(uint8_t *s, size_t room, size_t len, const plot *p, size_t *grown) {
     static plot plots[MOST_PLOTS + 1];
     frame f;
-    uint32_t refused = walk_refusal(p->start, p->sides), before = 0;
+    uint32_t refused = walk_refusal(LIMIT, p->start, p->sides), before = 0;
     if (refused || (refused = sheet_checked(s, room, len, &f)))
         return refused;
     for (uint32_t k = 0; k < f.count; k++) {

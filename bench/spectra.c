@@ -1,6 +1,5 @@
 /* How finely a plot breaks up (U9): the cells lost from fold to fold of a frame, by sets of cells and by search. */
 #include "oracle.h"
-#include <stdlib.h>
 
 static int has(const cells *a, int64_t x, int64_t y) {
     int64_t i = x - a->x0, j = y - a->y0;
@@ -8,8 +7,8 @@ static int has(const cells *a, int64_t x, int64_t y) {
 }
 
 /* How many cells of the first are not cells of the second. */
-static uint32_t lost(const cells *a, const cells *b) {
-    uint32_t n = 0;
+static uint64_t lost(const cells *a, const cells *b) {
+    uint64_t n = 0;
     for (int j = 0; j < WINDOW; j++)
         for (int i = 0; a->row[j] && i < WINDOW; i++)
             n += has(a, a->x0 + i, a->y0 + j) && !has(b, a->x0 + i, a->y0 + j);
@@ -52,7 +51,7 @@ static uint32_t refusal_of_cells(const cells *p, const cells *f) {
 }
 
 /* One more entry; whether either of its two openings is filled. */
-static void add(spectrum *s, uint32_t cells, int filled) {
+static void add(spectrum *s, uint64_t cells, int filled) {
     s->entry[s->count++] = cells;
     s->filled += filled != 0;
 }
@@ -72,23 +71,9 @@ void spectrum_by_cells(const cells *p, const cells *f, spectrum *s) {
     }
 }
 
-static int64_t longer(int64_t a, int64_t b) { return llabs(a) > llabs(b) ? llabs(a) : llabs(b); }
-
-/* The cells on and inside an outline, from its corners alone: the area, half of the steps along it, and one, by Pick's theorem. */
-static uint32_t count_by_corners(const int64_t c[8]) {
-    int64_t at[8][2], area_twice = 0, steps = 0;
-    corners_by_search(c, at);
-    for (int k = 0; k < 8; k++) {
-        const int64_t *u = at[k], *v = at[(k + 1) % 8];
-        area_twice += u[0] * v[1] - u[1] * v[0];
-        steps += longer(v[0] - u[0], v[1] - u[1]);
-    }
-    return (uint32_t)((area_twice + steps) / 2 + 1);
-}
-
 /* The plot opened by n folds: how many cells it has, and whether it is filled. A frame that has (0, 0) trims a plot to some of its own
  * cells, so that none is off the map. */
-static uint32_t opened_by_search(const answer *p, const answer *f, size_t n, int *filled) {
+static uint64_t opened_by_search(const answer *p, const answer *f, size_t n, int *filled) {
     int64_t c[8];
     for (int k = 0; k < 8; k++)
         c[k] = p->c[k] - (int64_t)n * f->c[k];
@@ -115,7 +100,7 @@ void spectrum_by_search(const int32_t p[8], const int32_t f[8], spectrum *s) {
     int filled = 0, fills;
     s->number = a.number ? a.number : refusal_of_frame(f, &b);
     s->count = s->filled = 0;
-    for (uint32_t more = s->number ? 0 : opened_by_search(&a, &b, 0, &filled), less; more; more = less) {
+    for (uint64_t more = s->number ? 0 : opened_by_search(&a, &b, 0, &filled), less; more; more = less) {
         less = opened_by_search(&a, &b, s->count + 1, &fills);
         add(s, more - less, filled || fills);
         filled = fills;

@@ -10,11 +10,11 @@ static void move(int64_t at[2], const uint32_t sides[8], int k) {
     at[1] += (int64_t)sides[k] * STEP[k][1];
 }
 
-uint32_t walk_refusal(const int32_t start[2], const uint32_t sides[8]) {
+uint32_t walk_refusal(int64_t limit, const int32_t start[2], const uint32_t sides[8]) {
     int64_t at[2] = {start[0], start[1]};
     int off = 0;
     for (int k = 0; k < 8; k++) {
-        off |= at[0] < -LIMIT || at[0] > LIMIT || at[1] < -LIMIT || at[1] > LIMIT;
+        off |= at[0] < -limit || at[0] > limit || at[1] < -limit || at[1] > limit;
         move(at, sides, k);
     }
     if (at[0] != start[0] || at[1] != start[1])

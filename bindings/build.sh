@@ -15,8 +15,8 @@ matches() {
 
 sh "$here/archive.sh"
 
-say "compiling and running example.c with example_spectra.c, example_surveys.c and example_sheets.c"
-gcc -std=c11 -O2 -Wall -Wextra -Wpedantic -Werror -o "$built/example_c" "$here/example.c" "$here/example_spectra.c" "$here/example_surveys.c" "$here/example_sheets.c" "$built/libkoxirmeta.a"
+say "compiling and running example.c with example_spectra.c, example_surveys.c, example_sheets.c and example_joins.c"
+gcc -std=c11 -O2 -Wall -Wextra -Wpedantic -Werror -o "$built/example_c" "$here"/example*.c "$built/libkoxirmeta.a"
 matches example_c
 
 for edition in 2021 2024; do

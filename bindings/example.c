@@ -1,6 +1,6 @@
 /* The library from C: cases of document 01, a plot and a frame whose numbers all differ, and opposed rows, whose spread is filled;
- * example_spectra.c has spectra, example_surveys.c a surveyor's tape and trees, example_sheets.c sheets and the limits. `build.sh`
- * compares what they write with expected.txt. */
+ * example_spectra.c has spectra, example_surveys.c a surveyor's tape and trees, example_sheets.c sheets and the limits, example_joins.c
+ * joins and conversions. `build.sh` compares what they write with expected.txt. */
 #include "example.h"
 #include <stdio.h>
 #include <string.h>
@@ -32,14 +32,15 @@ static void cell_at(int32_t x, int32_t y, int32_t out[8]) {
 /* Writes the answer of a call, and then some words where it is accepted. */
 static void show_with(const char *what, uint32_t answer, const int32_t bounds[8], const char *words) {
     int32_t start[2] = {0, 0};
-    uint32_t n[8] = {0}, cells = 0;
+    uint32_t n[8] = {0};
+    uint64_t cells = 0;
     if (answer != KX_ACCEPTED) {
         printf("%s: refused %u\n", what, answer);
         return;
     }
     kx_to_outline(bounds, 8, start, 2, n, 8);
     kx_count(bounds, 8, &cells);
-    printf("%s: start %d %d sides %u %u %u %u %u %u %u %u cells %u%s\n", what, start[0], start[1], n[0], n[1], n[2], n[3], n[4], n[5], n[6], n[7], cells, words);
+    printf("%s: start %d %d sides %u %u %u %u %u %u %u %u cells %" PRIu64 "%s\n", what, start[0], start[1], n[0], n[1], n[2], n[3], n[4], n[5], n[6], n[7], cells, words);
 }
 
 void show(const char *what, uint32_t answer, const int32_t bounds[8]) { show_with(what, answer, bounds, ""); }
@@ -48,13 +49,14 @@ static const char *words_of(uint32_t mark) { return mark == KX_EXACT ? ", exact"
 
 void show_bounds(const char *what, const int32_t bounds[8]) {
     int32_t o[8] = {0};
-    uint32_t answer = kx_normalise(bounds, 8, o, 8), cells = 0;
+    uint32_t answer = kx_normalise(bounds, 8, o, 8);
+    uint64_t cells = 0;
     if (answer != KX_ACCEPTED) {
         printf("%s: refused %u\n", what, answer);
         return;
     }
     kx_count(bounds, 8, &cells);
-    printf("%s: %d %d %d %d %d %d %d %d cells %u\n", what, o[0], o[1], o[2], o[3], o[4], o[5], o[6], o[7], cells);
+    printf("%s: %d %d %d %d %d %d %d %d cells %" PRIu64 "\n", what, o[0], o[1], o[2], o[3], o[4], o[5], o[6], o[7], cells);
 }
 
 static void show_trim(const char *what, trim *f, const int32_t p[8], const int32_t q[8]) {
@@ -104,14 +106,27 @@ static void octagons(void) {
     show_spread("K2 closed by K4", kx_closing, k2, k4);
     cell_at(-KX_MAP_LIMIT, 0, cell);
     cell_at(1, 0, other);
-    show_trim("(-16000,0) trimmed by (1,0)", kx_erode, cell, other);
+    show_trim("(-2000000,0) trimmed by (1,0)", kx_erode, cell, other);
     cell_at(KX_MAP_LIMIT, 0, cell);
-    show_spread("(16000,0) spread by (0,0)", kx_dilate, cell, ORIGIN);
-    show_spread("(16000,0) spread by (1,0)", kx_dilate, cell, other);
-    show_folds("origin spread 65535 times", ORIGIN, ORIGIN, KX_FOLD_LIMIT);
-    show_folds("origin spread 65536 times", ORIGIN, ORIGIN, KX_FOLD_LIMIT + 1);
+    show_spread("(2000000,0) spread by (0,0)", kx_dilate, cell, ORIGIN);
+    show_spread("(2000000,0) spread by (1,0)", kx_dilate, cell, other);
+    show_folds("origin spread 4000001 times", ORIGIN, ORIGIN, KX_FOLD_LIMIT);
+    show_folds("origin spread 4000002 times", ORIGIN, ORIGIN, KX_FOLD_LIMIT + 1);
     show("block trimmed twice by 3 by 1", kx_erode_n(block, 8, (const int32_t[8]){0, 2, 2, 2, 0, 0, 0, 0}, 8, 2, out, 8), out);
     printf("seven bounds: %u\n", kx_normalise(ORIGIN, 7, out, 8));
+}
+
+/* A plot far off the old map, of more cells than 32 bits count: its bounds, its outline, a corner, and what a row trims off it. */
+static void county(void) {
+    int32_t plot[8], row[8];
+    double place[2] = {0, 0};
+    octagon_at(COUNTY_START[0], COUNTY_START[1], COUNTY_SIDES, plot);
+    octagon_at(7, -3, RISING, row);
+    show_bounds("county plot", plot);
+    show("its outline", KX_ACCEPTED, plot);
+    if (kx_vertex_place(plot, 8, 4, place, 2) == KX_ACCEPTED)
+        printf("corner 4: %.2f east %.2f north\n", place[0], place[1]);
+    show_trim("trimmed by a rising row", kx_erode, plot, row);
 }
 
 /* A plot and a frame whose numbers all differ. */
@@ -202,6 +217,7 @@ static void splits(void) {
 
 int main(void) {
     octagons();
+    county();
     uneven();
     opposed_rows();
     splits();
@@ -211,6 +227,7 @@ int main(void) {
     sheets();
     base_sheets();
     joins();
+    conversions();
     limits();
     return 0;
 }

@@ -1,5 +1,6 @@
-//! The library from Rust: the cases of example.c and, in example_spectra.rs, example_surveys.rs and example_sheets.rs, those of
-//! example_spectra.c, example_surveys.c and example_sheets.c. `build.sh` compares what they write with expected.txt.
+//! The library from Rust: the cases of example.c and, in example_spectra.rs, example_surveys.rs, example_sheets.rs and example_joins.rs,
+//! those of the files of these names in C. `build.sh` compares what they write with expected.txt.
+mod example_joins;
 mod example_sheets;
 mod example_spectra;
 mod example_surveys;
@@ -16,6 +17,8 @@ const K13: Sides = [0, 1, 0, 1, 0, 1, 0, 1];
 const BLOCK: Sides = [2, 0, 1, 0, 2, 0, 1, 0];
 const SQUARE: Sides = [2, 0, 2, 0, 2, 0, 2, 0];
 const UNEVEN: Plot = Plot { number: 70001, start: [-4, -5], sides: [3, 1, 14, 2, 5, 4, 6, 7], fee_row: 40961 };
+const COUNTY: Plot =
+    Plot { number: 31337, start: [-1234567, 1654321], sides: [100003, 20011, 70001, 30013, 100013, 40009, 29995, 50021], fee_row: 4077 };
 const FRAME: Bounds = [-4, -1, 5, 11, 7, 4, -2, -7];
 const RISING: Sides = [0, 4, 0, 0, 0, 4, 0, 0];
 const FALLING: Sides = [0, 0, 0, 2, 0, 0, 0, 2];
@@ -84,13 +87,23 @@ fn octagons() {
     show_spread("K13 opened by K4", kx::opening(&k13, &k4));
     show_spread("K2 closed by K4", kx::closing(&k2, &k4));
     let (west, east, one) = (octagon_at(-kx::MAP_LIMIT, 0, &[0; 8]), octagon_at(kx::MAP_LIMIT, 0, &[0; 8]), octagon_at(1, 0, &[0; 8]));
-    show("(-16000,0) trimmed by (1,0)", kx::erode(&west, &one));
-    show_spread("(16000,0) spread by (0,0)", kx::dilate(&east, &ORIGIN));
-    show_spread("(16000,0) spread by (1,0)", kx::dilate(&east, &one));
-    show_spread("origin spread 65535 times", kx::dilate_n(&ORIGIN, &ORIGIN, kx::FOLD_LIMIT));
-    show_spread("origin spread 65536 times", kx::dilate_n(&ORIGIN, &ORIGIN, kx::FOLD_LIMIT + 1));
+    show("(-2000000,0) trimmed by (1,0)", kx::erode(&west, &one));
+    show_spread("(2000000,0) spread by (0,0)", kx::dilate(&east, &ORIGIN));
+    show_spread("(2000000,0) spread by (1,0)", kx::dilate(&east, &one));
+    show_spread("origin spread 4000001 times", kx::dilate_n(&ORIGIN, &ORIGIN, kx::FOLD_LIMIT));
+    show_spread("origin spread 4000002 times", kx::dilate_n(&ORIGIN, &ORIGIN, kx::FOLD_LIMIT + 1));
     show("block trimmed twice by 3 by 1", kx::erode_n(&block, &[0, 2, 2, 2, 0, 0, 0, 0], 2));
     println!("seven bounds: {}", number(&kx::normalise(&ORIGIN[..7])));
+}
+
+/// A plot far off the old map, of more cells than 32 bits count: its bounds, its outline, a corner, and what a row trims off it.
+fn county() {
+    let plot = kx::to_octagon(&COUNTY.start, &COUNTY.sides).unwrap();
+    show_bounds("county plot", &plot);
+    show("its outline", Ok(plot));
+    let [east, north] = kx::vertex_place(&plot, 4).unwrap();
+    println!("corner 4: {east:.2} east {north:.2} north");
+    show("trimmed by a rising row", kx::erode(&plot, &octagon_at(7, -3, &RISING)));
 }
 
 /// A plot and a frame whose numbers all differ.
@@ -163,21 +176,22 @@ fn splits() {
 fn refusals() {
     assert_eq!(kx::enclose(&[]), Err(Refusal::NoPoint));
     assert_eq!(kx::enclose(&[1.5]), Err(Refusal::HalfPoint));
-    assert_eq!(kx::enclose(&[5000.0, f64::NAN]), Err(Refusal::NotFinite));
-    assert_eq!(kx::enclose(&[5000.0, 1.5]), Err(Refusal::OffMap));
+    assert_eq!(kx::enclose(&[500500.0, f64::NAN]), Err(Refusal::NotFinite));
+    assert_eq!(kx::enclose(&[500500.0, 1.5]), Err(Refusal::OffMap));
     assert_eq!(kx::clearance(i32::MIN, 5, kx::RADIUS_LIMIT + 1), Err(Refusal::TooWide));
     assert_eq!(kx::clearance(i32::MIN, 5, kx::RADIUS_LIMIT), Err(Refusal::OffMap));
     for number in 1..=255 {
         let why = Refusal::from_number(number);
         let error: &dyn std::error::Error = &why;
         assert_eq!(why.number(), number);
-        assert_eq!(why.name() != "Unknown", (number <= 20 && number != 4) || number == 255);
+        assert_eq!(why.name() != "Unknown", (number <= 21 && number != 4) || number == 255);
         assert!(error.to_string().starts_with(&format!("refused {number}: ")));
     }
 }
 
 fn main() {
     octagons();
+    county();
     uneven();
     opposed_rows();
     splits();
@@ -186,7 +200,8 @@ fn main() {
     example_surveys::trees();
     example_sheets::sheets();
     example_sheets::base_sheets();
-    example_sheets::joins();
+    example_joins::joins();
+    example_joins::conversions();
     example_sheets::limits();
     refusals();
 }

@@ -1,5 +1,5 @@
-/* Spectra from C: how finely a plot breaks up, in lists of every length; a filled opening; operands that are refused; and the most
- * entries that a spectrum has. */
+/* Spectra from C: how finely a plot breaks up, in lists of every length; a filled opening; operands that are refused; an entry of more
+ * cells than 32 bits count; and the most entries that a spectrum has. */
 #include "example.h"
 #include <stdio.h>
 
@@ -16,7 +16,7 @@ enum { MOST = 2 * KX_MAP_LIMIT + 1 };
 static const char *words_of(uint32_t ending) { return ending == KX_SPENT ? "spent" : ending == KX_FINISHED ? "finished" : "with no ending"; }
 
 /* Writes how a call ended on a list of this length: the trims and the ending, or the refusal. */
-static void show_ending(const char *what, const int32_t plot[8], const int32_t frame[8], uint32_t *list, size_t len) {
+static void show_ending(const char *what, const int32_t plot[8], const int32_t frame[8], uint64_t *list, size_t len) {
     size_t trims = UNTRIMMED;
     uint32_t ending = UNENDED, answer = kx_spectrum(plot, 8, frame, 8, list, len, &trims, &ending);
     printf("%s, list of %zu: ", what, len);
@@ -28,22 +28,22 @@ static void show_ending(const char *what, const int32_t plot[8], const int32_t f
 
 /* The same, and then every place. */
 static void show_spectrum(const char *what, const int32_t plot[8], const int32_t frame[8], size_t len) {
-    uint32_t places[PLACES];
-    for (uint32_t k = 0; k < PLACES; k++)
+    uint64_t places[PLACES];
+    for (uint64_t k = 0; k < PLACES; k++)
         places[k] = 901 + k;
     show_ending(what, plot, frame, places, len);
     printf("; places");
     for (int k = 0; k < PLACES; k++)
-        printf(" %u", places[k]);
+        printf(" %" PRIu64, places[k]);
     printf("\n");
 }
 
 /* The same for a list of MOST places or about as many, and then its last place. */
 static void show_last(const char *what, const int32_t plot[8], const int32_t frame[8], size_t len) {
-    static uint32_t list[MOST + 1];
+    static uint64_t list[MOST + 1];
     list[len - 1] = 907;
     show_ending(what, plot, frame, list, len);
-    printf("; last place %u\n", list[len - 1]);
+    printf("; last place %" PRIu64 "\n", list[len - 1]);
 }
 
 /* Lists of every length from 0 to one past the last entry; shorter and longer ones; and an opening that is filled. */
@@ -70,6 +70,16 @@ static void refused_spectra(void) {
     show_spectrum("crossed bounds by (0,0)", CROSSED, ORIGIN, PLACES);
 }
 
+/* A block by another, which stands in it once but not twice: one fold loses nothing, and the second all. */
+static void large_entry(void) {
+    static const uint32_t wide[8] = {3700004, 0, 3300012, 0, 3700004, 0, 3300012, 0}, high[8] = {2000003, 0, 3000001, 0, 2000003, 0, 3000001, 0};
+    int32_t block[8], frame[8];
+    octagon_at(-1900001, -1700005, wide, block);
+    octagon_at(-40009, -1100003, high, frame);
+    show_spectrum("a block by a block", block, frame, 1);
+    show_spectrum("a block by a block", block, frame, PLACES);
+}
+
 /* Two rows as wide as the map, by the cells (0, 0) and (1, 0). */
 static void most_entries(void) {
     static const uint32_t wide[8] = {2 * KX_MAP_LIMIT, 0, 1, 0, 2 * KX_MAP_LIMIT, 0, 1, 0}, k1[8] = {1, 0, 0, 0, 1, 0, 0, 0};
@@ -83,5 +93,6 @@ static void most_entries(void) {
 void spectra(void) {
     entries();
     refused_spectra();
+    large_entry();
     most_entries();
 }

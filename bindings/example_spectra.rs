@@ -1,5 +1,5 @@
-//! Spectra from Rust: how finely a plot breaks up, in lists of every length; a filled opening; operands that are refused; and the most
-//! entries that a spectrum has.
+//! Spectra from Rust: how finely a plot breaks up, in lists of every length; a filled opening; operands that are refused; an entry of more
+//! cells than 32 bits count; and the most entries that a spectrum has.
 use crate::koxirmeta as kx;
 use crate::koxirmeta::{Bounds, Refusal, Spectrum};
 use crate::{CROSSED, K4, K13, ORIGIN, octagon_at, words};
@@ -16,7 +16,7 @@ const PLACES: usize = 6;
 const MOST: usize = 2 * kx::MAP_LIMIT as usize + 1;
 
 /// How a call ended on a list: the trims and the ending, or the refusal.
-fn ended(plot: &Bounds, frame: &Bounds, list: &mut [u32]) -> String {
+fn ended(plot: &Bounds, frame: &Bounds, list: &mut [u64]) -> String {
     match kx::spectrum(plot, frame, list) {
         Err(why) => format!("refused {}", why.number()),
         Ok(Spectrum::Finished(trims)) => format!("trims {trims}, finished"),
@@ -26,7 +26,7 @@ fn ended(plot: &Bounds, frame: &Bounds, list: &mut [u32]) -> String {
 
 /// Writes how a call ended on a list of this length, and then every place.
 fn show_spectrum(what: &str, plot: &Bounds, frame: &Bounds, len: usize) {
-    let mut places: [u32; PLACES] = std::array::from_fn(|k| 901 + k as u32);
+    let mut places: [u64; PLACES] = std::array::from_fn(|k| 901 + k as u64);
     println!("{what}, list of {len}: {}; places {}", ended(plot, frame, &mut places[..len]), words(&places));
 }
 
@@ -62,6 +62,15 @@ fn refused_spectra() {
     show_spectrum("crossed bounds by (0,0)", &CROSSED, &ORIGIN, PLACES);
 }
 
+/// A block by another, which stands in it once but not twice: one fold loses nothing, and the second all.
+fn large_entry() {
+    let block = octagon_at(-1900001, -1700005, &[3700004, 0, 3300012, 0, 3700004, 0, 3300012, 0]);
+    let frame = octagon_at(-40009, -1100003, &[2000003, 0, 3000001, 0, 2000003, 0, 3000001, 0]);
+    for len in [1, PLACES] {
+        show_spectrum("a block by a block", &block, &frame, len);
+    }
+}
+
 /// Two rows as wide as the map, by the cells (0, 0) and (1, 0).
 fn most_entries() {
     let width = 2 * kx::MAP_LIMIT as u32;
@@ -75,5 +84,6 @@ fn most_entries() {
 pub fn spectra() {
     entries();
     refused_spectra();
+    large_entry();
     most_entries();
 }

@@ -21,8 +21,8 @@ static void survey(const char *what, const double *tape, size_t len) {
 /* An irregular plot, from its lowest corner round; a point that was not measured; tapes that end early; and the edge of the map. */
 void tapes(void) {
     static const double plot[18] = {12.3, -4.875, 17.62, -4.4, 21.125, -1.07, 22.09, 3.7, 19.84, 8.33, 14.6, 10.95, 9.4, 9.2, 6.375, 5.05, 7.9, -1.375};
-    const double gap[6] = {12.3, -4.875, 17.62, NAN, 4100.5, 3.7}, far[6] = {12.3, -4.875, 4000.125, -4.4, INFINITY, 3.7};
-    const double edge[2] = {4000.0625, -4000.125};
+    const double gap[6] = {12.3, -4.875, 17.62, NAN, 500100.5, 3.7}, far[6] = {12.3, -4.875, 500000.125, -4.4, INFINITY, 3.7};
+    const double edge[2] = {500000.0625, -500000.125};
     survey("surveyed plot", plot, 18);
     survey("a point that was not measured", gap, 6);
     survey("a point off the map", far, 6);
@@ -45,17 +45,17 @@ void trees(void) {
     tree(-3, 7, 0);
     tree(4, -9, 3);
     tree(-12, 8, 5);
-    tree(15983, -15983, 17);
-    tree(15984, -15983, 17);
-    tree(15983, -15984, 17);
-    tree(-15983, 15983, 17);
-    tree(-15984, 15983, 17);
-    tree(-15983, 15984, 17);
+    tree(1999983, -1999983, 17);
+    tree(1999984, -1999983, 17);
+    tree(1999983, -1999984, 17);
+    tree(-1999983, 1999983, 17);
+    tree(-1999984, 1999983, 17);
+    tree(-1999983, 1999984, 17);
     tree(-6, 2, 255);
     tree(-6, 2, 256);
     tree(-6, 2, UINT32_MAX);
-    tree(16001, -6, 0);
-    tree(2, -16001, 256);
+    tree(2000001, -6, 0);
+    tree(2, -2000001, 256);
     tree(INT32_MIN, INT32_MAX, 255);
     tree(INT32_MIN, INT32_MAX, 256);
     tree(INT32_MAX, INT32_MIN, 255);

@@ -22,11 +22,11 @@ fn survey(what: &str, tape: &[f64]) {
 pub fn tapes() {
     let plot = [12.3, -4.875, 17.62, -4.4, 21.125, -1.07, 22.09, 3.7, 19.84, 8.33, 14.6, 10.95, 9.4, 9.2, 6.375, 5.05, 7.9, -1.375];
     survey("surveyed plot", &plot);
-    survey("a point that was not measured", &[12.3, -4.875, 17.62, f64::NAN, 4100.5, 3.7]);
-    survey("a point off the map", &[12.3, -4.875, 4000.125, -4.4, f64::INFINITY, 3.7]);
+    survey("a point that was not measured", &[12.3, -4.875, 17.62, f64::NAN, 500100.5, 3.7]);
+    survey("a point off the map", &[12.3, -4.875, 500000.125, -4.4, f64::INFINITY, 3.7]);
     survey("nine numbers", &plot[..9]);
     survey("no point", &[]);
-    survey("a point at the edge of the map", &[4000.0625, -4000.125]);
+    survey("a point at the edge of the map", &[500000.0625, -500000.125]);
 }
 
 fn tree(x: i32, y: i32, radius: u32) {
@@ -40,17 +40,17 @@ pub fn trees() {
     tree(-3, 7, 0);
     tree(4, -9, 3);
     tree(-12, 8, 5);
-    tree(15983, -15983, 17);
-    tree(15984, -15983, 17);
-    tree(15983, -15984, 17);
-    tree(-15983, 15983, 17);
-    tree(-15984, 15983, 17);
-    tree(-15983, 15984, 17);
+    tree(1999983, -1999983, 17);
+    tree(1999984, -1999983, 17);
+    tree(1999983, -1999984, 17);
+    tree(-1999983, 1999983, 17);
+    tree(-1999984, 1999983, 17);
+    tree(-1999983, 1999984, 17);
     tree(-6, 2, 255);
     tree(-6, 2, 256);
     tree(-6, 2, u32::MAX);
-    tree(16001, -6, 0);
-    tree(2, -16001, 256);
+    tree(2000001, -6, 0);
+    tree(2, -2000001, 256);
     tree(i32::MIN, i32::MAX, 255);
     tree(i32::MIN, i32::MAX, 256);
     tree(i32::MAX, i32::MIN, 255);

@@ -43,20 +43,22 @@ extern "C" {
 
 /* The limits and lengths of documents 01 and 02. */
 enum {
-    KX_MAP_LIMIT = 16000,    /* of a cell's coordinates, up and down */
-    KX_FOLD_LIMIT = 65535,   /* of n in an n-fold call */
+    KX_MAP_LIMIT = 2000000,  /* of a cell's coordinates, up and down */
+    KX_OLD_LIMIT = 16000,    /* the same on the old map: that of the records of KX_BASE_RECORD and of KX_FEE_RECORD */
+    KX_FOLD_LIMIT = 4000001, /* of n in an n-fold call */
     KX_RADIUS_LIMIT = 255,   /* of a tree's radius, in cells */
     KX_SHEET_LIMIT = 65536,  /* of a sheet's length, in bytes */
-    KX_BASE_RECORD = 24,     /* the length of document 01's record, in bytes: it has no fee row */
-    KX_FEE_RECORD = 26,      /* the length of a record that ends with a fee row, in bytes */
-    KX_RECORD = KX_FEE_RECORD, /* the length of a record that is written */
+    KX_BASE_RECORD = 24,     /* the length of document 01's record, in bytes: numbers of 16 bits, and no fee row */
+    KX_FEE_RECORD = 26,      /* that of U2's: it ends with a fee row */
+    KX_COUNTY_RECORD = 46,   /* that of U10's: numbers of 32 bits, and a fee row */
+    KX_RECORD = KX_COUNTY_RECORD, /* that of the records of a sheet that is started, grown or joined */
     KX_TRAILER = 16          /* the length of a trailer, in bytes */
 };
 
 /* The lengths of the slices. */
 enum { KX_BOUNDS = 8, KX_START = 2, KX_SIDES = 8, KX_COUNTS = 13, KX_PLACE = 2 };
 
-/* The length of a listing's text: a line for each record that a sheet can hold, of the shorter ones, and two, each of at most
+/* The length of a listing's text: a line for each record that a sheet can hold, of the shortest ones, and two, each of at most
  * KX_LINE bytes. */
 enum { KX_LINE = 273, KX_TEXT = KX_LINE * ((KX_SHEET_LIMIT - KX_TRAILER) / KX_BASE_RECORD + 2) };
 
@@ -64,7 +66,8 @@ enum { KX_LINE = 273, KX_TEXT = KX_LINE * ((KX_SHEET_LIMIT - KX_TRAILER) / KX_BA
 enum {
     KX_ACCEPTED = 0,
     KX_NO_CELL = 1,          /* the bounds hold no cell */
-    KX_OFF_MAP = 2,          /* some cell lies off the map: a coordinate is beyond KX_MAP_LIMIT */
+    KX_OFF_MAP = 2,          /* some cell lies off the map: a coordinate is beyond KX_MAP_LIMIT; in a record of KX_BASE_RECORD or
+                              * KX_FEE_RECORD, beyond KX_OLD_LIMIT */
     KX_NOT_CLOSED = 3,       /* the outline does not close */
     KX_NOTHING_LEFT = 5,     /* no position fits */
     KX_TOO_MANY_FOLDS = 6,   /* n is above KX_FOLD_LIMIT */
@@ -82,6 +85,7 @@ enum {
     KX_TWO_RECORDS = 18,     /* one plot number stands for two differing records */
     KX_NO_ORIGIN = 19,       /* the frame of a spectrum lacks the cell (0, 0) */
     KX_NO_OTHER_CELL = 20,   /* it has no other cell */
+    KX_OFF_OLD_MAP = 21,     /* a plot that is to be converted leaves the old map: a coordinate is beyond KX_OLD_LIMIT */
     KX_WRONG_LENGTH = 255    /* a slice of the wrong length: the caller's mistake, and no number of the documents */
 };
 
@@ -101,7 +105,7 @@ enum {
 uint32_t kx_normalise(const int32_t *bounds, size_t bounds_len, int32_t *out, size_t out_len);
 
 /* The number of cells, to *cells. Refusals: 1, 2. */
-uint32_t kx_count(const int32_t *bounds, size_t bounds_len, uint32_t *cells);
+uint32_t kx_count(const int32_t *bounds, size_t bounds_len, uint64_t *cells);
 
 /* Two operands of eight bounds each, the result to out[KX_BOUNDS] and, but for erode, its mark to *mark. Each operand's 1 and 2, the
  * plot's first; then
@@ -139,10 +143,11 @@ uint32_t kx_erode_n(const int32_t *plot, size_t plot_len, const int32_t *element
  * their count is 0, and entry n is the last. One trim is made for each entry: *trims is the number of both, and *ending says
  * KX_FINISHED where the last entry is written, also where it fills the list, and KX_SPENT where the list is full and a further
  * entry was due. Finished entries sum to the plot's cells, and those of a spent list to these less the cells still open. Places
- * past the last entry keep their values. No spectrum has more entries than the map is wide, 2 * KX_MAP_LIMIT + 1, and a plot moved
- * on the map has the same one. Refusals: each operand's 1 and 2, the plot's first; then 19 when the frame lacks the cell (0, 0),
- * then 20 when it has no other cell; all of these for a list of length 0 too. */
-uint32_t kx_spectrum(const int32_t *plot, size_t plot_len, const int32_t *frame, size_t frame_len, uint32_t *list, size_t list_len, size_t *trims, uint32_t *ending);
+ * past the last entry keep their values. No spectrum has more entries than the map is wide: a list of 2 * KX_MAP_LIMIT + 1 places is
+ * never spent; it takes 32 megabytes, more than most stacks have. A plot moved on the map has the same spectrum. Refusals: each
+ * operand's 1 and 2, the plot's first; then 19 when the frame lacks the cell (0, 0), then 20 when it has no other cell; all of these
+ * for a list of length 0 too. */
+uint32_t kx_spectrum(const int32_t *plot, size_t plot_len, const int32_t *frame, size_t frame_len, uint64_t *list, size_t list_len, size_t *trims, uint32_t *ending);
 
 /* The octagon of the outline start[KX_START], sides[KX_SIDES], to out[KX_BOUNDS]. Refusals: 3, 2. */
 uint32_t kx_to_octagon(const int32_t *start, size_t start_len, const uint32_t *sides, size_t sides_len, int32_t *out, size_t out_len);
@@ -167,8 +172,13 @@ uint32_t kx_enclose(const double *tape, size_t tape_len, int32_t *out, size_t ou
 uint32_t kx_clearance(int32_t x, int32_t y, uint32_t radius, int32_t *out, size_t out_len);
 
 /* A sheet stands in the first len of the sheet_len bytes of a buffer: a heading, records and a trailer of KX_TRAILER bytes. Its
- * records all have the length that the trailer names, KX_BASE_RECORD or KX_FEE_RECORD, and sheets of both are read. A fee row is any
- * unsigned 16-bit number, and that of a record of KX_BASE_RECORD bytes is 0. All records that are written have KX_RECORD bytes. */
+ * records all have the length that the trailer names, KX_BASE_RECORD, KX_FEE_RECORD or KX_COUNTY_RECORD, and sheets of all three are
+ * read. A fee row is any unsigned 16-bit number, and that of a record of KX_BASE_RECORD bytes is 0. The plots of a sheet of
+ * KX_COUNTY_RECORD are judged on the map, from -KX_MAP_LIMIT to KX_MAP_LIMIT, those of the two shorter lengths on the old map, from
+ * -KX_OLD_LIMIT to KX_OLD_LIMIT. kx_sheet_start, kx_sheet_insert and kx_sheet_join write records of KX_RECORD bytes, kx_sheet_convert
+ * those of KX_FEE_RECORD. A sheet holds 1,424 plots of KX_RECORD, where 2,520 of KX_FEE_RECORD and 2,730 of KX_BASE_RECORD fitted: an
+ * old sheet of 1,424 plots or more takes no insert (12), and two sheets with more than 1,424 between them, a plot that both have
+ * counted once, have no join (12). */
 
 /* How many records a sheet has, to *count. Refusals: 8, 9, 10; then for each record 11, 3, 2. */
 uint32_t kx_sheet_check(const uint8_t *sheet, size_t sheet_len, size_t len, uint32_t *count);
@@ -178,30 +188,40 @@ uint32_t kx_sheet_check(const uint8_t *sheet, size_t sheet_len, size_t len, uint
 uint32_t kx_sheet_fetch(const uint8_t *sheet, size_t sheet_len, size_t len, uint32_t k, uint32_t *number, int32_t *start, size_t start_len, uint32_t *sides, size_t sides_len, uint16_t *fee_row);
 
 /* The same in constant time, for a sheet that kx_sheet_check accepts: it checks no record. Refusals: the check's 8, 9 and 10, then
- * 13 when k is not below the trailer's count. Of a sheet whose records are wrong, it answers what stands in record k. */
+ * 13 when k is not below the trailer's count. Of a sheet whose records are wrong, it answers what stands in record k, plots off their
+ * map among them. */
 uint32_t kx_sheet_read(const uint8_t *sheet, size_t sheet_len, size_t len, uint32_t k, uint32_t *number, int32_t *start, size_t start_len, uint32_t *sides, size_t sides_len, uint16_t *fee_row);
 
-/* Writes the trailer of a sheet of no records after `heading` bytes, and its length to *len. Refusals: 8 when that length is above
- * KX_SHEET_LIMIT, then 12 when it is above the buffer's. */
+/* Writes the trailer of a sheet of no records after `heading` bytes, and its length to *len. The trailer names KX_RECORD. Refusals: 8
+ * when that length is above KX_SHEET_LIMIT, then 12 when it is above the buffer's. */
 uint32_t kx_sheet_start(uint8_t *sheet, size_t sheet_len, size_t heading, size_t *len);
 
-/* Inserts a plot by its number, and writes the new length to *grown. A sheet of KX_BASE_RECORD is written anew at KX_RECORD, in the
- * same buffer: its plots keep their numbers and outlines, and have the fee row 0. The new length is that of the heading, of a record
- * of KX_RECORD for each plot, the new one among them, and of the trailer. Refusals: first the outline's 3 and 2, then the check's,
- * 11, and 12 when the new length is above the buffer's or above KX_SHEET_LIMIT. Heading and bytes past the new length keep their
- * values. */
+/* Inserts a plot by its number, and writes the new length to *grown. A sheet of KX_BASE_RECORD or KX_FEE_RECORD is written anew at
+ * KX_RECORD, in the same buffer: its plots keep their numbers, outlines and fee rows. The new length is that of the heading, of a
+ * record of KX_RECORD for each plot, the new one among them, and of the trailer. Refusals: first 3 and 2 for the outline, on the map
+ * up to KX_MAP_LIMIT, whichever record length the sheet has; then the check's, 11, and 12 when the new length is above the buffer's
+ * or above KX_SHEET_LIMIT. Heading and bytes past the new length keep their values. */
 uint32_t kx_sheet_insert(uint8_t *sheet, size_t sheet_len, size_t len, uint32_t number, const int32_t *start, size_t start_len, const uint32_t *sides, size_t sides_len, uint16_t fee_row, size_t *grown);
 
 /* Joins two sheets in a third buffer, and writes the new length to *len. The first sheet stands in the first first_len of the
- * first_room bytes of its buffer, the second in the first second_len of second_room; each has either record length, and both are only
+ * first_room bytes of its buffer, the second in the first second_len of second_room; each has any record length, and both are only
  * read. What is written, from the start of the joined_room bytes of the third buffer, is the first sheet's heading, the records of
  * both by rising number, of KX_RECORD bytes each, and the trailer; the new length is that of all these. A plot that both have with
- * one outline and one fee row is kept once: a record of KX_BASE_RECORD bytes, whose fee row is 0, equals one of KX_FEE_RECORD that
- * says 0. Refusals: the check's for the first sheet, then the check's for the second; 18 when one plot number stands for two
- * differing records, whatever the third buffer's length is; 12 when the new length is above the third buffer's or above
- * KX_SHEET_LIMIT. Bytes of the third buffer past the new length keep their values. The two sheets may overlap each other, or be one;
- * the third buffer and *len overlap neither of them, nor each other. */
+ * one outline and one fee row is kept once, whatever the lengths of the two records: one of KX_BASE_RECORD bytes, whose fee row is 0,
+ * equals a longer one that says 0. Refusals: the check's for the first sheet, then the check's for the second; 18 when one plot number
+ * stands for two differing records, whatever the third buffer's length is; 12 when the new length is above the third buffer's or
+ * above KX_SHEET_LIMIT. Bytes of the third buffer past the new length keep their values. The two sheets may overlap each other, or be
+ * one; the third buffer and *len overlap neither of them, nor each other. */
 uint32_t kx_sheet_join(const uint8_t *first, size_t first_room, size_t first_len, const uint8_t *second, size_t second_room, size_t second_len, uint8_t *joined, size_t joined_room, size_t *len);
+
+/* Copies a sheet into a second buffer with KX_FEE_RECORD bytes a record, and writes the new length to *len. The sheet stands in the
+ * first first_len of the first_room bytes of its buffer, has any record length, and is only read. What is written, from the start of
+ * the second_room bytes of the second buffer, is its heading, its records in their order, and the trailer, which names KX_FEE_RECORD;
+ * the new length is that of all these. Refusals: the check's; 21 when a plot leaves the old map, as it can in a sheet of
+ * KX_COUNTY_RECORD alone, whatever the second buffer's length is; 12 when the new length is above the second buffer's or above
+ * KX_SHEET_LIMIT, as that of a sheet of KX_BASE_RECORD with more than 2,520 plots is. Bytes of the second buffer past the new length
+ * keep their values. The second buffer and *len overlap neither the first buffer nor each other. */
+uint32_t kx_sheet_convert(const uint8_t *first, size_t first_room, size_t first_len, uint8_t *second, size_t second_room, size_t *len);
 
 /* The listing of a sheet, to the start of text[KX_TEXT], and its length to *written; the bytes past it keep their values. Its last
  * column has the fee rows. It is always accepted: the listing of a sheet that kx_sheet_check refuses is the one line `refused`, a

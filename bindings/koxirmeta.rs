@@ -8,24 +8,28 @@ use std::error::Error;
 use std::fmt;
 
 /// How far a cell's coordinates go from the middle of the map, up and down.
-pub const MAP_LIMIT: i32 = 16000;
+pub const MAP_LIMIT: i32 = 2000000;
+/// The same on the old map: that of the records of [`BASE_RECORD`] and of [`FEE_RECORD`].
+pub const OLD_LIMIT: i32 = 16000;
 /// The most folds of one n-fold call.
-pub const FOLD_LIMIT: u32 = 65535;
+pub const FOLD_LIMIT: u32 = 4000001;
 /// The greatest radius of a tree, in cells.
 pub const RADIUS_LIMIT: u32 = 255;
 /// The length of the longest sheet, in bytes.
 pub const SHEET_LIMIT: usize = 65536;
-/// The length of document 01's record, in bytes: it has no fee row.
+/// The length of document 01's record, in bytes: numbers of 16 bits, and no fee row.
 pub const BASE_RECORD: usize = 24;
-/// The length of a record that ends with a fee row, in bytes.
+/// The length of U2's, which ends with a fee row.
 pub const FEE_RECORD: usize = 26;
-/// The length of a record that is written.
-pub const RECORD: usize = FEE_RECORD;
+/// The length of U10's: numbers of 32 bits, and a fee row.
+pub const COUNTY_RECORD: usize = 46;
+/// The length of a record of a sheet that is started, grown or joined.
+pub const RECORD: usize = COUNTY_RECORD;
 /// The length of the trailer of a sheet, in bytes.
 pub const TRAILER: usize = 16;
 /// The length of the longest line of a listing, in bytes.
 pub const LINE: usize = 273;
-/// The length of the text that a listing is written to, in bytes: a line for each record that a sheet can hold, of the shorter ones,
+/// The length of the text that a listing is written to, in bytes: a line for each record that a sheet can hold, of the shortest ones,
 /// and two.
 pub const TEXT: usize = LINE * ((SHEET_LIMIT - TRAILER) / BASE_RECORD + 2);
 
@@ -150,7 +154,8 @@ macro_rules! refusals {
 refusals! {
     /// The bounds hold no cell.
     NoCell = 1,
-    /// Some cell lies off the map: a coordinate is beyond [`MAP_LIMIT`].
+    /// Some cell lies off the map: a coordinate is beyond [`MAP_LIMIT`]; in a record of [`BASE_RECORD`] or [`FEE_RECORD`] bytes, beyond
+    /// [`OLD_LIMIT`].
     OffMap = 2,
     /// The outline does not close.
     NotClosed = 3,
@@ -186,6 +191,8 @@ refusals! {
     NoOrigin = 19,
     /// The frame of a spectrum has no other cell than (0, 0).
     NoOtherCell = 20,
+    /// A plot that is to be converted leaves the old map: a coordinate is beyond [`OLD_LIMIT`].
+    OffOldMap = 21,
     /// A slice of the wrong length: the caller's mistake, and no number of the documents.
     WrongLength = 255,
 }
@@ -195,7 +202,7 @@ impl fmt::Display for Refusal {
         write!(f, "refused {}: ", self.number())?;
         match self {
             Refusal::NoCell => write!(f, "the bounds hold no cell"),
-            Refusal::OffMap => write!(f, "some cell lies off the map, a coordinate beyond {MAP_LIMIT} either way"),
+            Refusal::OffMap => write!(f, "some cell lies off the map, a coordinate beyond {MAP_LIMIT} either way, or {OLD_LIMIT} in an old sheet"),
             Refusal::NotClosed => write!(f, "the outline does not close"),
             Refusal::NothingLeft => write!(f, "no position fits"),
             Refusal::TooManyFolds => write!(f, "more than {FOLD_LIMIT} folds"),
@@ -213,6 +220,7 @@ impl fmt::Display for Refusal {
             Refusal::TwoRecords => write!(f, "one plot number stands for two differing records"),
             Refusal::NoOrigin => write!(f, "the frame of the spectrum lacks the cell (0, 0)"),
             Refusal::NoOtherCell => write!(f, "the frame of the spectrum has no other cell than (0, 0)"),
+            Refusal::OffOldMap => write!(f, "a plot that is to be converted leaves the old map, a coordinate beyond {OLD_LIMIT} either way"),
             Refusal::WrongLength => write!(f, "a slice has the wrong length"),
             Refusal::Unknown(_) => write!(f, "a number of another version of the library"),
         }
@@ -224,14 +232,14 @@ impl Error for Refusal {}
 mod calls {
     unsafe extern "C" {
         pub fn kx_normalise(bounds: *const i32, bounds_len: usize, out: *mut i32, out_len: usize) -> u32;
-        pub fn kx_count(bounds: *const i32, bounds_len: usize, cells: *mut u32) -> u32;
+        pub fn kx_count(bounds: *const i32, bounds_len: usize, cells: *mut u64) -> u32;
         pub fn kx_dilate(p: *const i32, p_len: usize, f: *const i32, f_len: usize, out: *mut i32, out_len: usize, mark: *mut u32) -> u32;
         pub fn kx_erode(p: *const i32, p_len: usize, f: *const i32, f_len: usize, out: *mut i32, out_len: usize) -> u32;
         pub fn kx_opening(p: *const i32, p_len: usize, f: *const i32, f_len: usize, out: *mut i32, out_len: usize, mark: *mut u32) -> u32;
         pub fn kx_closing(p: *const i32, p_len: usize, f: *const i32, f_len: usize, out: *mut i32, out_len: usize, mark: *mut u32) -> u32;
         pub fn kx_dilate_n(p: *const i32, p_len: usize, f: *const i32, f_len: usize, n: u32, out: *mut i32, out_len: usize, mark: *mut u32) -> u32;
         pub fn kx_erode_n(p: *const i32, p_len: usize, f: *const i32, f_len: usize, n: u32, out: *mut i32, out_len: usize) -> u32;
-        pub fn kx_spectrum(p: *const i32, p_len: usize, f: *const i32, f_len: usize, list: *mut u32, list_len: usize, trims: *mut usize, ending: *mut u32) -> u32;
+        pub fn kx_spectrum(p: *const i32, p_len: usize, f: *const i32, f_len: usize, list: *mut u64, list_len: usize, trims: *mut usize, ending: *mut u32) -> u32;
         pub fn kx_to_octagon(start: *const i32, start_len: usize, sides: *const u32, sides_len: usize, out: *mut i32, out_len: usize) -> u32;
         pub fn kx_to_outline(bounds: *const i32, bounds_len: usize, start: *mut i32, start_len: usize, sides: *mut u32, sides_len: usize) -> u32;
         pub fn kx_vertex_place(bounds: *const i32, bounds_len: usize, k: u32, place: *mut f64, place_len: usize) -> u32;
@@ -244,6 +252,7 @@ mod calls {
         pub fn kx_sheet_start(sheet: *mut u8, sheet_len: usize, heading: usize, len: *mut usize) -> u32;
         pub fn kx_sheet_insert(sheet: *mut u8, sheet_len: usize, len: usize, number: u32, start: *const i32, start_len: usize, sides: *const u32, sides_len: usize, fee_row: u16, grown: *mut usize) -> u32;
         pub fn kx_sheet_join(first: *const u8, first_room: usize, first_len: usize, second: *const u8, second_room: usize, second_len: usize, joined: *mut u8, joined_room: usize, len: *mut usize) -> u32;
+        pub fn kx_sheet_convert(first: *const u8, first_room: usize, first_len: usize, second: *mut u8, second_room: usize, len: *mut usize) -> u32;
         pub fn kx_list(sheet: *const u8, sheet_len: usize, len: usize, text: *mut [u8; super::TEXT], written: *mut usize) -> u32;
     }
 }
@@ -268,8 +277,8 @@ pub fn normalise(bounds: &[i32]) -> Result<Bounds, Refusal> {
 }
 
 /// The number of cells. Refusals: `NoCell`, `OffMap`.
-pub fn count(bounds: &Bounds) -> Result<u32, Refusal> {
-    answer(|cells: &mut u32| unsafe { calls::kx_count(bounds.as_ptr(), bounds.len(), cells) })
+pub fn count(bounds: &Bounds) -> Result<u64, Refusal> {
+    answer(|cells: &mut u64| unsafe { calls::kx_count(bounds.as_ptr(), bounds.len(), cells) })
 }
 
 macro_rules! trims {
@@ -353,11 +362,11 @@ trims! {
 /// One trim is made for each entry. The spectrum is finished where the last entry is written, also where that fills the list, and spent
 /// where the list is full and a further entry was due; a list of length 0 is spent at 0. Finished entries sum to the plot's cells, and
 /// those of a spent list to these less the cells still open. Places past the last entry keep their values. No spectrum has more entries
-/// than the map is wide: 2 * [`MAP_LIMIT`] + 1.
+/// than the map is wide, 2 * [`MAP_LIMIT`] + 1; a list of as many takes 32 megabytes, more than most stacks have.
 ///
 /// Refusals: the plot's `NoCell` and `OffMap`, the frame's, `NoOrigin`, `NoOtherCell`; all of them for a list of length 0 too. A refused
 /// call leaves the list as it was.
-pub fn spectrum(plot: &Bounds, frame: &Bounds, list: &mut [u32]) -> Result<Spectrum, Refusal> {
+pub fn spectrum(plot: &Bounds, frame: &Bounds, list: &mut [u64]) -> Result<Spectrum, Refusal> {
     answer(|(trims, ending): &mut (usize, u32)| unsafe {
         calls::kx_spectrum(plot.as_ptr(), plot.len(), frame.as_ptr(), frame.len(), list.as_mut_ptr(), list.len(), trims, ending)
     })
@@ -407,9 +416,12 @@ pub fn clearance(x: i32, y: i32, radius: u32) -> Result<Bounds, Refusal> {
     answer(|out: &mut Bounds| unsafe { calls::kx_clearance(x, y, radius, out.as_mut_ptr(), out.len()) })
 }
 
-/// How many records the sheet in the first `len` bytes has, of [`BASE_RECORD`] or of [`FEE_RECORD`] bytes each.
+/// How many records the sheet in the first `len` bytes has, of [`BASE_RECORD`], of [`FEE_RECORD`] or of [`COUNTY_RECORD`] bytes each.
 ///
-/// Refusals: `BadLength`, `BadTrailer`, `BadDistance`; then for each record `BadNumber`, `NotClosed`, `OffMap`.
+/// A sheet holds 1,424 plots of [`RECORD`] bytes, where 2,520 of [`FEE_RECORD`] and 2,730 of [`BASE_RECORD`] fitted.
+///
+/// Refusals: `BadLength`, `BadTrailer`, `BadDistance`; then for each record `BadNumber`, `NotClosed`, `OffMap`: records of
+/// [`BASE_RECORD`] and of [`FEE_RECORD`] bytes are judged on the old map.
 pub fn sheet_check(sheet: &[u8], len: usize) -> Result<u32, Refusal> {
     answer(|count: &mut u32| unsafe { calls::kx_sheet_check(sheet.as_ptr(), sheet.len(), len, count) })
 }
@@ -435,10 +447,11 @@ pub fn sheet_start(sheet: &mut [u8], heading: usize) -> Result<usize, Refusal> {
     answer(|len: &mut usize| unsafe { calls::kx_sheet_start(sheet.as_mut_ptr(), sheet.len(), heading, len) })
 }
 
-/// Inserts a plot by its number: the new length. A sheet whose records have [`BASE_RECORD`] bytes is written anew with [`RECORD`]
-/// bytes for each; its plots keep their numbers and outlines, and have the fee row 0.
+/// Inserts a plot by its number: the new length. A sheet whose records have [`BASE_RECORD`] or [`FEE_RECORD`] bytes is written anew
+/// with [`RECORD`] bytes for each; its plots keep their numbers, outlines and fee rows.
 ///
-/// Refusals: first the outline's `NotClosed` and `OffMap`, then those of [`sheet_check`], `BadNumber`, `NoRoom`.
+/// Refusals: first the outline's `NotClosed` and `OffMap`, on the map up to [`MAP_LIMIT`], whichever record length the sheet has; then
+/// those of [`sheet_check`], `BadNumber`, and `NoRoom`, also for an old sheet of 1,424 plots or more.
 pub fn sheet_insert(sheet: &mut [u8], len: usize, plot: &Plot) -> Result<usize, Refusal> {
     let Plot { number, start, sides, fee_row } = plot;
     answer(|grown: &mut usize| unsafe {
@@ -450,14 +463,27 @@ pub fn sheet_insert(sheet: &mut [u8], len: usize, plot: &Plot) -> Result<usize, 
 /// third: the new length. The first two may overlap, or be one.
 ///
 /// What is written is the first sheet's heading, the records of both by rising number, of [`RECORD`] bytes each, and a trailer. A
-/// plot that both have with one outline and one fee row is kept once: a record of [`BASE_RECORD`] bytes, whose fee row is 0, equals
-/// one of [`FEE_RECORD`] that says 0. The bytes of `joined` past the new length keep their values.
+/// plot that both have with one outline and one fee row is kept once, whatever the lengths of the two records: one of [`BASE_RECORD`]
+/// bytes, whose fee row is 0, equals a longer one that says 0. The bytes of `joined` past the new length keep their values.
 ///
 /// Refusals: those of [`sheet_check`] for the first sheet, then those for the second; `TwoRecords` when one plot number stands for
 /// two differing records, whatever the length of `joined` is; `NoRoom` when the new length is above that, or above [`SHEET_LIMIT`].
 pub fn sheet_join(first: &[u8], first_len: usize, second: &[u8], second_len: usize, joined: &mut [u8]) -> Result<usize, Refusal> {
     answer(|len: &mut usize| unsafe {
         calls::kx_sheet_join(first.as_ptr(), first.len(), first_len, second.as_ptr(), second.len(), second_len, joined.as_mut_ptr(), joined.len(), len)
+    })
+}
+
+/// Copies the sheet in the first `len` bytes of one slice to the start of another with [`FEE_RECORD`] bytes a record: the new length.
+///
+/// What is written is its heading, its records in their order and a trailer; they may have had any record length. The bytes of
+/// `second` past the new length keep their values.
+///
+/// Refusals: those of [`sheet_check`]; `OffOldMap` when a plot leaves the old map, whatever the length of `second` is; `NoRoom` when
+/// the new length is above that, or above [`SHEET_LIMIT`].
+pub fn sheet_convert(first: &[u8], len: usize, second: &mut [u8]) -> Result<usize, Refusal> {
+    answer(|new_len: &mut usize| unsafe {
+        calls::kx_sheet_convert(first.as_ptr(), first.len(), len, second.as_mut_ptr(), second.len(), new_len)
     })
 }
 

@@ -19,8 +19,8 @@ from fractions import Fraction
 from functools import cache
 
 MOST = 2**31 - 1
-LIMIT = 16000
-FOLDS = 65535
+LIMIT = 2000000
+FOLDS = 4000001
 STEPS = [(1, 0), (1, 1), (0, 1), (-1, 1), (-1, 0), (-1, -1), (0, -1), (1, -1)]
 
 
@@ -262,7 +262,7 @@ def bytes_from(seed):
 
 def coordinate(draw):
     n = draw // 16
-    return {0: 15992 + n, 1: -15992 - n}.get(draw % 16, n - 7)
+    return {0: 1999992 + n, 1: -1999992 - n}.get(draw % 16, n - 7)
 
 
 def piece(draw):
@@ -377,11 +377,21 @@ def moved(p, e, n):
 
 
 def most_sums(p, e, n):
-    """The answer to so many spreads, about as many as the limit: the sums have p moved by that many times each cell of e."""
+    """The answer to so many spreads that with those of p already made they are as many as the limit: the sums have p moved by that many times
+    each cell of e."""
     if len(e) == 1:
         return accepted(moved(p, e, n))
     assert any(is_off_map(moved(p, [cell], n)) for cell in e)
     return refused(2)
+
+
+def most_then_few(p, e, m):
+    """The answer to all but m of as many spreads as the limit has, and then to the m."""
+    if len(e) > 1:
+        # the octagon of the first call, if there is one, holds its sums, and so that of the second all the sums
+        return most_sums(p, e, FOLDS)
+    first = accepted(moved(p, e, FOLDS - m))
+    return first if first[10] else accepted(dilations(moved(p, e, FOLDS - m), e, m)[m])
 
 
 def most_left(p, e, n):
@@ -418,8 +428,7 @@ def compare_spreads(p, e):
     for m in range(5):
         # few folds and then the rest, and the other way round
         CALLS["dilate_m_n"].note(refused(2) if is_off_map(more[m]) else most_sums(smallest(more[m]), e, FOLDS - m))
-        first = most_sums(p, e, FOLDS - m)
-        CALLS["dilate_m_n"].note(first if first[10] else accepted(dilations(moved(p, e, FOLDS - m), e, m)[m]))
+        CALLS["dilate_m_n"].note(most_then_few(p, e, m))
     CALLS["dilate_n"].note(refused(6))
 
 
@@ -437,8 +446,7 @@ def compare_trims(p, e):
         first, other = trimmed(left), most_left(p, e, FOLDS - m)
         if first[10] != 2:
             CALLS["erode_m_n"].note(first if first[10] else most_left(left, e, FOLDS - m))
-        if other[10] != 2:
-            CALLS["erode_m_n"].note(other if other[10] else trimmed(erosions(moved(p, e, m - FOLDS), e, m)[m]))
+        CALLS["erode_m_n"].note(other if other[10] else trimmed(erosions(moved(p, e, m - FOLDS), e, m)[m]))
     CALLS["erode_n"].note(refused(6))
 
 

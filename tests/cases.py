@@ -1,11 +1,8 @@
 #!/usr/bin/env python3
 """Works out what crates/cases prints, on its own: python3 tests/cases.py > crates/cases/stdout
 
-An octagon's set is taken row by row: in row y the cells run from the greatest of three lower limits to the least of three upper
-limits. Both are piecewise linear in y, the width of a row is concave, and so is the greatest value of x, x-y, x+y and their
-opposites in a row. So the rows that have a cell are found from the widest row by bisection, each tight bound by ternary search
-over them, and the cells are counted row by row. None of this uses the library's normal form or its cell count. A spread has the
-cells of the smallest octagon that holds the sums, and is filled where that holds others.
+An octagon's set is taken cell by cell, or row by row (rows.py). A spread has the cells of the smallest octagon that holds the sums, and is
+filled where that holds others. Folds across the map are those of far_folds.py.
 
 The splits are those of cells.py: a rest is tried with every pair of kinds and every small count, and the pieces, spread one after the
 other, have to make the plot. The constants are read off the sentences of documents 01 and 02.
@@ -13,76 +10,11 @@ other, have to make the plot. The constants are read off the sentences of docume
 
 import re
 
-from cells import inside, outline, pairs_that_make, rows_and_rest, split, tightest
+import far_folds
+from cells import FOLD_LIMIT, LIMIT, inside, outline, pairs_that_make, repeated, rows_and_rest, split, tightest
+from rows import normal
 
-LIMIT = 16000
 MIN, MAX = -2**31, 2**31 - 1
-
-
-def ends(c, y):
-    return max(-c[6], y - c[5], -c[7] - y), min(c[2], c[1] + y, c[3] - y)
-
-
-def peak(f, low, high):
-    """A place of the greatest value of a concave function on whole numbers."""
-    while high - low > 2:
-        a = low + (high - low) // 3
-        b = high - (high - low) // 3
-        if f(a) < f(b):
-            low = a + 1
-        elif f(a) > f(b):
-            high = b - 1
-        else:
-            low, high = a, b
-    return max(range(low, high + 1), key=f)
-
-
-def first(test, low, high):
-    """The first place in low..high that passes a test which, once passed, stays so; high passes it."""
-    while low < high:
-        mid = (low + high) // 2
-        if test(mid):
-            high = mid
-        else:
-            low = mid + 1
-    return low
-
-
-def normal(c):
-    """The tight bounds, or a refusal number."""
-    low, high = -c[0], c[4]
-    if low > high:
-        return 1
-
-    def width(y):
-        a, b = ends(c, y)
-        return b - a
-
-    # rows of equal width but another parity may lie beside the peak
-    top = peak(width, low, high)
-    rows = [y for y in range(max(low, top - 3), min(high, top + 3) + 1) if width(y) >= 0]
-    if not rows:
-        return 1
-    mid = rows[0]
-    bottom = first(lambda y: width(y) >= 0, low, mid)
-    up = -first(lambda y: width(-y) >= 0, -high, -mid)
-
-    def most(f):
-        return f(peak(f, bottom, up))
-
-    t = (
-        -bottom,
-        most(lambda y: ends(c, y)[1] - y),
-        most(lambda y: ends(c, y)[1]),
-        most(lambda y: ends(c, y)[1] + y),
-        up,
-        most(lambda y: -ends(c, y)[0] + y),
-        most(lambda y: -ends(c, y)[0]),
-        most(lambda y: -ends(c, y)[0] - y),
-    )
-    if max(t[0], t[2], t[4], t[6]) > LIMIT:
-        return 2
-    return t, sum(max(0, width(y) + 1) for y in range(bottom, up + 1))
 
 
 def show(answer):
@@ -168,10 +100,10 @@ def sides(piece):
 
 
 def constants():
-    """The map, the folds, a sheet's length, a record's without and with a fee row, that of one written, a trailer's, and the greatest
-    radius; the refusals, of which none is 4; the constants of the octagon; the tables."""
-    print("limits", *(words.replace(",", "") for words in ("16,000", "65,535", "65,536", "24", "26", "26", "16", "255")))
-    print("refusals", *(n for n in range(1, 21) if n != 4))
+    """The map, the map of older records, the folds, a sheet's length, a record's without and with a fee row and with 32-bit sides, that of one
+    written, a trailer's, and the greatest radius; the refusals, of which none is 4; the constants of the octagon; the tables."""
+    print("limits", *(words.replace(",", "") for words in ("2,000,000", "16,000", "4,000,001", "65,536", "24", "26", "46", "46", "16", "255")))
+    print("refusals", *(n for n in range(1, 22) if n != 4))
     print("origin", *[0] * 8)
     print("built", *range(1, 9))
     print("steps", *(n for step in re.findall(r"(-?\d),(-?\d)", STEPS) for n in step))
@@ -217,15 +149,13 @@ def main():
     beside("positions of the frame", around(fits(plot, frame)))
     spread_beside("ground that it opens", sums(fits(plot, frame), frame))
     print("the price list's figure, cells %d: agree" % len(sums(fits(plot, frame), frame)))
-    spread_beside("cell (16000,0) spread by (0,0)", sums({(16000, 0)}, {(0, 0)}))
-    spread_beside("cell (16000,0) spread by (1,0)", sums({(16000, 0)}, {(1, 0)}))
+    spread_beside("cell (2000000,0) spread by (0,0)", sums({(2000000, 0)}, {(0, 0)}))
+    spread_beside("cell (2000000,0) spread by (1,0)", sums({(2000000, 0)}, {(1, 0)}))
     opposed_rows()
     cells = {(0, 0)}
     print("origin spread once by itself has the same cells:", "agree" if sums(cells, cells) == cells else "disagree")
-    for _ in range(65535):
-        cells = sums(cells, {(0, 0)})
-    spread_beside("origin spread 65535 times by itself", cells)
-    print("origin spread 65536 times by itself: %s: agree" % show(6))
+    spread_beside("origin spread %d times by itself" % FOLD_LIMIT, repeated(lambda made: sums(made, cells), cells, FOLD_LIMIT))
+    print("origin spread %d times by itself: %s: agree" % (FOLD_LIMIT + 1, show(6)))
     # the block's cells and those of K13, summed; corner 2 is where the sides n1 and n2 meet: the lowest of the rightmost cells
     block = {(x, y) for x in range(3) for y in range(2)}
     spread = sums(block, K13)
@@ -234,6 +164,8 @@ def main():
     assert (corner[0] / 4, corner[1] / 4) == (0.75, 0.25)
     spread_beside("the block spread by K13", spread)
     print("its corner 2, in quarter metres east and north: %d %d: agree" % corner)
+    for what, answer, is_spread in far_folds.answers():
+        print("%s: %s" % (what, marked(answer, False) if is_spread else show(answer)))
     splits()
     # too large to enumerate, or bounds too far apart
     for c in (
@@ -243,12 +175,12 @@ def main():
         (MIN, MIN, MAX, MAX, MAX, MAX, MAX, MAX),
         (MAX, MAX, MAX, MAX, MIN, MIN, MIN, MIN),
         (MAX, MAX, MIN, MAX, MAX, MAX, MAX, MAX),
-        (16000, MAX, 16000, MAX, 16000, MAX, 16000, MAX),
+        (2000000, MAX, 2000000, MAX, 2000000, MAX, 2000000, MAX),
     ):
         print("normalise %s: %s" % (" ".join(map(str, c)), show(normal(c))))
     for c in (
         (MAX,) * 8,
-        (16000, MAX, 16001, MAX, 16000, MAX, 16000, MAX),
+        (2000000, MAX, 2000001, MAX, 2000000, MAX, 2000000, MAX),
         (MAX, -3, MAX, MAX, MAX, 3, 0, 7),
         (MAX, 0, MAX, 1, MAX, 0, MAX, -1),
         (MAX, 0, MAX, 0, MAX, 0, MAX, 0),

@@ -3,12 +3,14 @@ clearances.py and the scripts of the tapes.
 
 It shares nothing with the library. A set is a Python set of cells (x, y). Bounds hold the cells that pass the eight inequalities; the
 bounds of an answer are the greatest values of their left sides. Sums, positions that fit, walks, opposed rows and the split are taken
-word for word from document 01; a spread of opposed rows is filled, as document 02 has it. A refusal is raised with its number.
+word for word from document 01; a spread of opposed rows is filled, and the limits of the map and of folds are U10's, as document 02 has them.
+A refusal is raised with its number.
 """
 import sheets
 from sheets import STEPS, Refused, corners
 
-LIMIT = 16000
+LIMIT = 2000000
+FOLD_LIMIT = 4000001
 WRONG_LENGTH = 255
 
 # ---- octagons as sets
@@ -78,10 +80,17 @@ def positions(a, b):
     return {(x - u, y - v) for x, y in a if all((x - u + s, y - v + t) in a for s, t in b)}
 
 
-def sums_on_map(a, b, n):
+def repeated(step, cells, n):
+    """The cells after n steps. A step that leaves them as they are leaves them so however often it is made."""
     for _ in range(n):
-        a = sums(a, b)
-    return on_map(a)
+        before, cells = cells, step(cells)
+        if cells == before:
+            break
+    return cells
+
+
+def sums_on_map(a, b, n):
+    return on_map(repeated(lambda cells: sums(cells, b), a, n))
 
 
 def spread(a, b, n=1):
@@ -94,11 +103,10 @@ def spread(a, b, n=1):
 
 
 def trim(a, b, n=1):
-    for _ in range(n):
-        a = positions(a, b)
-    if not a:
+    left = repeated(lambda cells: positions(cells, b), a, n)
+    if not left:
         raise Refused(5)
-    return octagonal(a)
+    return octagonal(left)
 
 
 def close(a, b):
@@ -115,7 +123,7 @@ def exact(cells):
 
 def folded(operation):
     def call(p, f, n):
-        if n > 65535:
+        if n > FOLD_LIMIT:
             raise Refused(6)
         return operation(some(p), some(f), n)
 

@@ -49,12 +49,12 @@ def around(x, y, radius):
 
 
 def scattered(n):
-    return n % 31001 - 15500
+    return n % 3999001 - 1999500
 
 
 def radii():
     """Each radius, about a centre of its own."""
-    trees = [(scattered(radius * 4999), scattered(radius * 7919 + 3001), radius) for radius in range(256)]
+    trees = [(scattered(radius * 624917), scattered(radius * 989921 + 375121), radius) for radius in range(256)]
     assert all(len({abs(x), abs(y), radius}) == 3 for x, y, radius in trees)
     assert {(x > 0, y > 0) for x, y, _ in trees if x and y} == {(a, b) for a in (False, True) for b in (False, True)}
     return trees

@@ -2,12 +2,13 @@
 """Works out what the examples of bindings/ write, on its own: python3 tests/examples.py > bindings/expected.txt
 
 It shares with the examples in C and Rust their operands and the words of a line. What the calls answer is worked out by cells.py,
-openings.py, clearances.py, enclosing.py, sheets.py and joins.py.
+openings.py, blocks.py, clearances.py, enclosing.py, sheets.py and joins.py.
 """
 from math import inf, nan
 
 import sheets
-from cells import PAIRED, PIECES, WRONG_LENGTH, corner, inside, outline, some, split, tightest
+from blocks import entries_of_blocks, outline_of
+from cells import FOLD_LIMIT, LIMIT, PAIRED, PIECES, WRONG_LENGTH, corner, forms, inside, outline, some, split, tightest
 from sheets import Refused
 from clearances import around
 from enclosing import enclose
@@ -91,13 +92,34 @@ def octagons():
     yield trimmed("block trimmed by 3 by 3", "erode", block, square)
     yield spread("K2 spread by K4", "dilate", k2, k4) + spread("K13 opened by K4", "opening", k13, k4)
     yield spread("K2 closed by K4", "closing", k2, k4)
-    west, east, one = (tightest({cell}) for cell in ((-16000, 0), (16000, 0), (1, 0)))
-    yield trimmed("(-16000,0) trimmed by (1,0)", "erode", west, one)
-    yield spread("(16000,0) spread by (0,0)", "dilate", east, ORIGIN) + spread("(16000,0) spread by (1,0)", "dilate", east, one)
-    for n in 65535, 65536:
+    west, east, one = (tightest({cell}) for cell in ((-LIMIT, 0), (LIMIT, 0), (1, 0)))
+    yield trimmed("(-2000000,0) trimmed by (1,0)", "erode", west, one)
+    yield spread("(2000000,0) spread by (0,0)", "dilate", east, ORIGIN) + spread("(2000000,0) spread by (1,0)", "dilate", east, one)
+    for n in FOLD_LIMIT, FOLD_LIMIT + 1:
         yield spread("origin spread %d times" % n, "dilate_n", ORIGIN, ORIGIN, n)
     yield trimmed("block trimmed twice by 3 by 1", "erode_n", block, row, 2)
     yield "seven bounds: %d\n" % WRONG_LENGTH
+
+
+COUNTY = (-1234567, 1654321), [100003, 20011, 70001, 30013, 100013, 40009, 29995, 50021]
+
+
+def drawn_far(bounds):
+    start, n, count = outline_of(bounds)
+    return "start %s sides %s cells %d" % (words(start), words(n), count)
+
+
+def county():
+    """A plot far off the old map, of more cells than 32 bits count. A row stands where each of its cells lies in the plot."""
+    walk = sheets.corners(*COUNTY[0], COUNTY[1])
+    bounds = tightest(walk)
+    start, n, count = outline_of(bounds)
+    assert (start, n) == COUNTY
+    yield "county plot: %s cells %d\n" % (words(bounds), count) + "its outline: %s\n" % drawn_far(bounds)
+    yield "corner 4: %.2f east %.2f north\n" % tuple(n / 4 for n in walk[4])
+    row = inside((7, -3), [0, 4, 0, 0] * 2)
+    moved = [[bound - form for bound, form in zip(bounds, forms(cell))] for cell in row]
+    yield "trimmed by a rising row: %s\n" % drawn_far([min(each) for each in zip(*moved)])
 
 
 def uneven():
@@ -123,7 +145,7 @@ def uneven():
 
 def opposed_rows():
     """Rows whose numbers all differ, one of each kind, and rows that reach the edge of the map."""
-    rising, edge, past = (octagon(*start, [0, 4, 0, 0] * 2) for start in ((4, -11), (15987, 5), (15988, 5)))
+    rising, edge, past = (octagon(*start, [0, 4, 0, 0] * 2) for start in ((4, -11), (LIMIT - 13, 5), (LIMIT - 12, 5)))
     falling = octagon(9, 2, [0, 0, 0, 2] * 2)
     yield bounded("rising row", rising) + bounded("falling row", falling)
     yield spread("rising spread by falling", "dilate", rising, falling)
@@ -161,12 +183,15 @@ def ended(what, places, work):
     return "%s, list of %d: trims %d, %s" % (what, len(places), trims, "finished" if finished else "spent")
 
 
-def measured(what, plot, frame, length=6):
+def told(what, length, work):
     """The call on the first of six places, and all of them."""
     places = list(range(901, 907))
     lent = places[:length]
-    line = ended(what, lent, lambda: entries(plot, frame))
-    return "%s; places %s\n" % (line, words(lent + places[length:]))
+    return "%s; places %s\n" % (ended(what, lent, work), words(lent + places[length:]))
+
+
+def measured(what, plot, frame, length=6):
+    return told(what, length, lambda: entries(plot, frame))
 
 
 def spectra():
@@ -180,10 +205,12 @@ def spectra():
     yield measured("small plot by the large one", SMALL, LARGE) + measured("small plot by (1,0)", SMALL, tightest({(1, 0)}))
     yield measured("small plot by (0,0)", SMALL, ORIGIN) + measured("small plot by (0,0)", SMALL, ORIGIN, 0)
     yield measured("small plot by crossed bounds", SMALL, CROSSED) + measured("crossed bounds by (0,0)", CROSSED, ORIGIN)
-    rows = entries_along(32001)
-    for length in 32000, 32001, 32002:
+    for length in 1, 6:
+        yield told("a block by a block", length, lambda: entries_of_blocks((3700005, 3300013), (2000004, 3000002)))
+    widest = entries_along(2 * LIMIT + 1)
+    for length in 2 * LIMIT, 2 * LIMIT + 1, 2 * LIMIT + 2:
         places = [907] * length
-        yield ended("two rows as wide as the map by two cells", places, lambda: rows) + "; last place %d\n" % places[-1]
+        yield ended("two rows as wide as the map by two cells", places, lambda: widest) + "; last place %d\n" % places[-1]
 
 
 SURVEY = [12.3, -4.875, 17.62, -4.4, 21.125, -1.07, 22.09, 3.7, 19.84, 8.33, 14.6, 10.95, 9.4, 9.2, 6.375, 5.05, 7.9, -1.375]
@@ -204,15 +231,16 @@ def surveyed(what, tape):
 
 def tapes():
     yield surveyed("surveyed plot", SURVEY)
-    yield surveyed("a point that was not measured", [12.3, -4.875, 17.62, nan, 4100.5, 3.7])
-    yield surveyed("a point off the map", [12.3, -4.875, 4000.125, -4.4, inf, 3.7])
+    yield surveyed("a point that was not measured", [12.3, -4.875, 17.62, nan, 500100.5, 3.7])
+    yield surveyed("a point off the map", [12.3, -4.875, 500000.125, -4.4, inf, 3.7])
     yield surveyed("nine numbers", SURVEY[:9]) + surveyed("no point", [])
-    yield surveyed("a point at the edge of the map", [4000.0625, -4000.125])
+    yield surveyed("a point at the edge of the map", [500000.0625, -500000.125])
 
 
 TREES = [(131, -58, 17), (-3, 7, 0), (4, -9, 3), (-12, 8, 5)]
-TREES += [(15983, -15983, 17), (15984, -15983, 17), (15983, -15984, 17), (-15983, 15983, 17), (-15984, 15983, 17), (-15983, 15984, 17)]
-TREES += [(-6, 2, 255), (-6, 2, 256), (-6, 2, 2**32 - 1), (16001, -6, 0), (2, -16001, 256)]
+TREES += [(1999983, -1999983, 17), (1999984, -1999983, 17), (1999983, -1999984, 17)]
+TREES += [(-1999983, 1999983, 17), (-1999984, 1999983, 17), (-1999983, 1999984, 17)]
+TREES += [(-6, 2, 255), (-6, 2, 256), (-6, 2, 2**32 - 1), (2000001, -6, 0), (2, -2000001, 256)]
 TREES += [(x, -1 - x, radius) for x in (-(2**31), 2**31 - 1) for radius in (255, 256)]
 
 
@@ -231,7 +259,7 @@ def record(what, work):
 
 
 def on_sheets():
-    sheet = bytearray(b"plots".ljust(102, b"\0"))
+    sheet = bytearray(b"plots".ljust(208, b"\0"))
     field = (*sheets.BLOCK, 65535)
     length = sheets.start(sheet, 5)
 
@@ -242,15 +270,16 @@ def on_sheets():
         return record(what, lambda: sheets.read(sheet, length, k))
 
     yield "start: 0 length %d\n" % length
-    for plot, place in (11407, (*sheets.DIAMOND, 515)), (70001, (*START, SIDES, 40961)), (7, field):
+    plots = (11407, (*sheets.DIAMOND, 515)), (70001, (*START, SIDES, 40961)), (7, field), (31337, (*COUNTY[0], COUNTY[1], 4077))
+    for plot, place in plots:
         length = sheets.insert(sheet, length, plot, *place)
         yield "insert %d: 0 length %d\n" % (plot, length)
     yield "insert 7 again: %d\n" % number(lambda: sheets.insert(sheet, length, 7, *field))
     yield "insert 8, no room: %d\n" % number(lambda: sheets.insert(sheet, length, 8, *field))
     yield "check: 0 count %d\n" % len(sheets.check(sheet, length)) + sheets.listing(sheet, length)
-    for k in range(1, 4):
+    for k in range(1, 5):
         yield fetched("record %d" % k, k)
-    yield read("read 0", 0) + read("read 3", 3)
+    yield read("read 0", 0) + read("read 4", 4)
     sheet[5] = 0
     yield fetched("record 1 where number 7 is 0", 1) + read("read 1 where number 7 is 0", 1)
     sheet[length - 1] = ord("E")
@@ -258,12 +287,12 @@ def on_sheets():
 
 
 def on_base_sheets():
-    """A sheet whose records have 24 bytes, in a buffer of 100 bytes, of which some are lent."""
+    """A sheet whose records have 24 bytes, in a buffer of 160 bytes, of which some are lent."""
     sheet = bytearray(sheets.old_sheet(b"old", (7, sheets.BLOCK), (11407, sheets.DIAMOND)))
-    length, past = len(sheet), b"\xee" * 100
+    length, past = len(sheet), b"\xee" * 160
 
     def shown(buffer):
-        return "bytes %s\n" % (buffer + past)[:100].hex()
+        return "bytes %s\n" % (buffer + past)[:160].hex()
 
     def inserted(room):
         """The buffer after an insert that is lent so much of it, and the new length or a refusal."""
@@ -275,48 +304,86 @@ def on_base_sheets():
 
     yield "check: 0 count %d\n" % len(sheets.check(sheet, length)) + sheets.listing(sheet, length)
     yield record("record 0", lambda: sheets.fetch(sheet, length, 0)) + record("read 1", lambda: sheets.read(sheet, length, 1))
-    yield "insert 258, room for 24 more: %s\n" % inserted(length + 24)[1]
-    yield "insert 258, one byte short: %s\n" % inserted(96)[1] + shown(sheet)
-    grown, answer = inserted(97)
-    yield "insert 258: %s\n" % answer + shown(grown) + sheets.listing(grown, 97)
-    yield record("record 1", lambda: sheets.fetch(grown, 97, 1))
+    yield "insert 258, room for 46 more: %s\n" % inserted(length + 46)[1]
+    yield "insert 258, one byte short: %s\n" % inserted(156)[1] + shown(sheet)
+    grown, answer = inserted(157)
+    yield "insert 258: %s\n" % answer + shown(grown) + sheets.listing(grown, 157)
+    yield record("record 1", lambda: sheets.fetch(grown, 157, 1))
 
 
 SHARED = (21, -33, [15, 11, 18, 9, 22, 8, 17, 13])
 SOUTH = [(41, (-700, 95, [31, 301, 40, 20, 74, 263, 73, 25]), 40961), (9054, (1290, -812, [51, 28, 53, 37, 16, 45, 54, 19]), 515)]
+NORTH = sheets.old_sheet(b"north", (770, SHARED), (70001, (*START, SIDES)))
 
 
-def southern(fee):
-    """A sheet whose records have 26 bytes, with this fee row for plot 770."""
-    return sheets.sheet(b"south half", SOUTH[0], (770, SHARED, fee), SOUTH[1])
+def southern(fee, *more):
+    """A sheet whose records have 46 bytes, with this fee row for plot 770."""
+    return sheets.sheet(b"south half", SOUTH[0], (770, SHARED, fee), SOUTH[1], *more)
+
+
+class Lent:
+    """A buffer of which some is lent to a call."""
+
+    def __init__(self, byte, room):
+        self.buffer = bytearray([byte]) * room
+
+    def called(self, what, call, room):
+        lent = self.buffer[:room]
+        try:
+            answer = "0 length %d" % call(lent)
+        except Refused as refusal:
+            answer = refusal.args[0]
+        self.buffer[:room] = lent
+        return "%s: %s\n" % (what, answer)
+
+    def joined(self, what, first, second, room):
+        return self.called("join " + what, lambda lent: join(first, len(first), second, len(second), lent), room)
+
+    def converted(self, what, sheet, room):
+        return self.called("convert " + what, lambda lent: sheets.convert(sheet, len(sheet), lent), room)
+
+    def shown(self):
+        return "bytes %s\n" % self.buffer.hex()
 
 
 def on_joins():
-    """A sheet whose records have 24 bytes and one of 26, joined in a buffer of 132 bytes, of which some are lent."""
-    north, south, other = sheets.old_sheet(b"north", (770, SHARED), (70001, (*START, SIDES))), southern(0), southern(258)
-    buffer = bytearray(b"\xee" * 132)
-
-    def joined(what, first, second, room):
-        lent = buffer[:room]
-        try:
-            answer = "0 length %d" % join(first, len(first), second, len(second), lent)
-        except Refused as refusal:
-            answer = refusal.args[0]
-        buffer[:room] = lent
-        return "join %s: %s\n" % (what, answer)
-
-    def shown():
-        return "bytes %s\n" % buffer.hex()
-
-    yield sheets.listing(north, len(north)) + sheets.listing(south, len(south))
-    yield joined("north and south, one byte short", north, south, 124) + shown()
-    yield joined("north and south", north, south, 125) + shown() + sheets.listing(buffer, 125)
-    yield joined("south and north", south, north, 130) + shown()
-    yield joined("north and itself", north, north, 73) + shown()
-    yield joined("where 770 has two fee rows", north, other, 132) + joined("the same with no buffer", north, other, 0)
+    """A sheet whose records have 24 bytes and one of 46, joined in a buffer of 216 bytes, of which some are lent."""
+    south, other, third = southern(0), southern(258), Lent(0xEE, 216)
+    yield sheets.listing(NORTH, len(NORTH)) + sheets.listing(south, len(south))
+    yield third.joined("north and south, one byte short", NORTH, south, 204) + third.shown()
+    yield third.joined("north and south", NORTH, south, 205) + third.shown() + sheets.listing(third.buffer, 205)
+    yield third.joined("south and north", south, NORTH, 210) + third.shown()
+    yield third.joined("north and itself", NORTH, NORTH, 113) + third.shown()
+    yield third.joined("where 770 has two fee rows", NORTH, other, 216) + third.joined("the same with no buffer", NORTH, other, 0)
     wrong = other[:-1] + b"E"
-    yield joined("of wrong letters and a length of 15", wrong, north[:15], 132)
-    yield joined("of a length of 15 and wrong letters", north[:15], wrong, 132) + shown()
+    yield third.joined("of wrong letters and a length of 15", wrong, NORTH[:15], 216)
+    yield third.joined("of a length of 15 and wrong letters", NORTH[:15], wrong, 216) + third.shown()
+
+
+def on_conversions():
+    """Sheets whose records have 46, 26 and 24 bytes, copied with 26 into a buffer of 108 bytes, of which some are lent."""
+    south, copy, again, third = southern(258), Lent(0xEE, 108), Lent(0xDD, 108), Lent(0, 164)
+    yield copy.converted("south, one byte short", south, 103) + copy.shown()
+    yield copy.converted("south", south, 104) + copy.shown() + sheets.listing(copy.buffer, 104)
+    written = bytes(copy.buffer[:104])
+    yield again.converted("the copy", written, 108) + again.shown()
+    yield third.joined("the copy and south", written, south, 164) + third.shown()
+    yield copy.converted("north, one byte short", NORTH, 72) + copy.converted("north", NORTH, 73) + copy.shown()
+    far = southern(258, (31337, (*COUNTY[0], COUNTY[1]), 4077))
+    yield sheets.listing(far, len(far))
+    yield copy.converted("where 31337 is off the old map", far, 108) + copy.converted("the same with no buffer", far, 0)
+    yield copy.converted("of wrong letters", far[:-1] + b"E", 108) + copy.shown()
+
+
+def fullest():
+    """As many plots as a sheet has room for, a copy of them with 26 bytes for each, and one more in either."""
+    plots = [(k + 1, (0, 0, [0] * 8), 1) for k in range(1500)]
+    count = max(n for n in range(1500) if len(sheets.sheet(b"", *plots[:n])) <= sheets.LIMIT)
+    full, copy = (bytearray(sheets.sheet(b"", *plots[:n]).ljust(sheets.LIMIT, b"\0")) for n in (count, 0))
+    length = len(sheets.sheet(b"", *plots[:count]))
+    copied = sheets.convert(full, length, copy)
+    past = [number(lambda: sheets.insert(buffer, n, count + 1, 0, 0, [0] * 8, 1)) for buffer, n in ((full, length), (copy, copied))]
+    return "plots that fit %d: length %d, one more: %d; copied: length %d, one more: %d\n" % (count, length, past[0], copied, past[1])
 
 
 def limits():
@@ -331,8 +398,13 @@ def limits():
     def tree(radius):
         return number(lambda: around(0, 0, radius))
 
-    yield "map limit 16000: %d, one more: %d\n" % (cell(16000), cell(16001))
-    yield "fold limit 65535: %d, one more: %d\n" % (fold(65535), fold(65536))
+    def old_cell(x):
+        sheet = sheets.laid(26, b"", (1, (x, 0, [0] * 8), 0))
+        return number(lambda: sheets.check(sheet, len(sheet)))
+
+    yield "map limit 2000000: %d, one more: %d\n" % (cell(2000000), cell(2000001))
+    yield "old map limit 16000: %d, one more: %d\n" % (old_cell(16000), old_cell(16001))
+    yield "fold limit 4000001: %d, one more: %d\n" % (fold(4000001), fold(4000002))
     yield "radius limit 255: %d, one more: %d\n" % (tree(255), tree(256))
     sheet = bytearray(65536)
     full = sheets.start(sheet, 65520)
@@ -340,14 +412,16 @@ def limits():
     length = sheets.start(sheet, 0)
     checks = [number(lambda: sheets.check(sheet, n)) for n in (16, 15)]
     yield "trailer %d: %d, one less: %d\n" % (length, *checks)
-    named = [number(lambda: sheets.check(sheets.trailer(0, size), 16)) for size in (24, 26, 25, 27)]
-    yield "record lengths 24 26: %d %d, one more each: %d %d\n" % tuple(named)
-    two = sheet[:42]
+    named = [number(lambda: sheets.check(sheets.trailer(0, size), 16)) for size in (24, 26, 46, 25, 27, 47)]
+    yield "record lengths 24 26 46: %d %d %d, one more each: %d %d %d\n" % tuple(named)
+    two = sheet[:62]
     grown = sheets.insert(two, length, 1, 0, 0, [0] * 8, 1)
-    three = two + bytes(25)
-    yield "record 26: 0, one less: %d, length %d\n" % (number(lambda: sheets.insert(three, grown, 2, 0, 0, [0] * 8, 1)), grown)
+    three = two + bytes(45)
+    yield "record 46: 0, one less: %d, length %d\n" % (number(lambda: sheets.insert(three, grown, 2, 0, 0, [0] * 8, 1)), grown)
+    yield fullest()
 
 
 if __name__ == "__main__":
-    for part in octagons, uneven, opposed_rows, splits, spectra, tapes, trees, on_sheets, on_base_sheets, on_joins, limits:
+    on_buffers = on_sheets, on_base_sheets, on_joins, on_conversions, limits
+    for part in octagons, county, uneven, opposed_rows, splits, spectra, tapes, trees, *on_buffers:
         print("".join(part()), end="")

@@ -2,13 +2,14 @@
 """Works out what crates/export_cases writes, on its own: python3 tests/exports.py > crates/export_cases/stdout
 
 It shares with the program its operands and the form of a line: the name of a call, the number that it answers, and the memory that it
-was lent, as it is afterwards. What the calls answer is worked out by cells.py, openings.py, clearances.py, enclosing.py, sheets.py and
-joins.py.
+was lent, as it is afterwards. What the calls answer is worked out by cells.py, openings.py, blocks.py, clearances.py, enclosing.py,
+sheets.py and joins.py.
 """
 import struct
 from math import inf, isnan, nan
 
 import sheets
+from blocks import entries_of_blocks, outline_of
 from cells import PAIRED, WRONG_LENGTH, corner, inside, outline, some, split, tightest
 from sheets import Refused
 from clearances import MAX, MIN, around
@@ -18,15 +19,16 @@ from openings import entries, put
 
 PLOT = [5, 4, 0, 10, 12, 19, 11, 9]
 OCTAGONS = [PLOT, [-4, -1, 5, 11, 7, 4, -2, -7], [5, 4, 0, 10, 40, 27, 11, 20], [6, 2, 7, 5, 8, -2, 9, -5]]
-OCTAGONS += [tightest({cell}) for cell in ((16001, -3), (15999, -7), (-2, 5))]
+OCTAGONS += [tightest({cell}) for cell in ((2000001, -3), (1999999, -7), (-2, 5))]
 OCTAGONS += [tightest({(2, 3), (3, 4), (4, 5)}), tightest({(1, 7), (2, 6)})]
 OCTAGONS += [PLOT[-k:] + PLOT[:-k] for k in (2, 4, 6)] + [tightest(inside((-6, 1), [0, 3, 0, 2, 0, 3, 0, 2]))]
-OCTAGONS += [tightest(inside((-9, 14), [1, 2, 2, 0, 0, 3, 1, 0])), tightest({(15997, -4), (15998, -3)})]
+OCTAGONS += [tightest(inside((-9, 14), [1, 2, 2, 0, 0, 3, 1, 0])), tightest({(1999997, -4), (1999998, -3)})]
 FRAMES = [1, 0, 1, 4, 3, 6, 5, 8, 7, 1, 1, 1, 8, 8, 8]
-FOLDS = [2, 0, 65536, 1, 1, 3, 1, 2, 0, 1, 1, 1, 1, 3, 2]
+FOLDS = [2, 0, 4000002, 1, 1, 3, 1, 2, 0, 1, 1, 1, 1, 3, 2]
 CALLS = {**PAIRED, "normalise": lambda plot, frame, n: (some(plot), False)}
 MARKED = "dilate", "opening", "closing", "dilate_n"
 TEXT = 273 * ((65536 - 16) // 24 + 2)
+WIDE = (-1234567, 1654321, [100003, 20011, 70001, 30013, 100013, 40009, 29995, 50021])
 
 
 def called(fits, work, *lent):
@@ -43,7 +45,7 @@ def called(fits, work, *lent):
 
 
 def line(name, number, *lent):
-    return "\n%-12s %d:%s" % (name, number, "".join(" %s" % value for one in lent for value in one))
+    return "\n%-13s %d:%s" % (name, number, "".join(" %s" % value for one in lent for value in one))
 
 
 def from_number(first, count):
@@ -76,9 +78,9 @@ def operate(plot, frame, n):
         yield operation(name, plot, frame, n)
 
 
-def count(plot):
+def count(plot, counted=lambda plot: len(some(plot))):
     cells = [101]
-    return line("count", called(len(plot) == 8, lambda: [[len(some(plot))]], cells), cells)
+    return line("count", called(len(plot) == 8, lambda: [[counted(plot)]], cells), cells)
 
 
 def to_outline(plot, start, sides):
@@ -109,6 +111,7 @@ def octagons():
         yield count(plot)
         yield decompose(plot, start, counts) + to_outline(plot, start, counts)
         yield vertex_place(plot, k % 9, [0.5, -0.75]) + vertex_place(plot, k % 9, [0.5, -0.75, 1.25])
+    yield count(tightest(sheets.corners(*WIDE)), lambda plot: outline_of(plot)[2])
     yield from operate(PLOT[:7], OCTAGONS[1], 1)
     yield from operate(PLOT, OCTAGONS[1][:7], 1)
     for name in MARKED:
@@ -123,18 +126,22 @@ SPOILT = [(3, OCTAGONS[4]), (4, OCTAGONS[3])]
 SPOILT += [(0, frame) for frame in (OCTAGONS[3], OCTAGONS[4], OCTAGONS[1], OCTAGONS[6], [0] * 8)]
 
 
-def spectrum(plot, frame, room=6):
+def told(fits, found, room):
     """The call on the first places of a list, and all of them."""
 
     def work():
-        trims, finished = put(entries(plot, frame), lent)
+        trims, finished = put(found(), lent)
         return lent, [trims], [int(finished)]
 
     places, trims, ending = from_number(301, 6), [101], [201]
     lent = places[:room]
-    number = called(len(plot) == 8 and len(frame) == 8, work, lent, trims, ending)
+    number = called(fits, work, lent, trims, ending)
     places[:room] = lent
     return line("spectrum", number, places, trims, ending)
+
+
+def spectrum(plot, frame, room=6):
+    return told(len(plot) == 8 and len(frame) == 8, lambda: entries(plot, frame), room)
 
 
 def on_spectra():
@@ -144,6 +151,8 @@ def on_spectra():
         yield spectrum(OCTAGONS[2], LOOSE, room)
     for room in 6, 2, 1:
         yield spectrum(OCTAGONS[13], tightest({(0, 0), (1, -1)}), room)
+    for room in 1, 6:
+        yield told(True, lambda: entries_of_blocks((3700005, 3300013), (2000004, 3000002)), room)
     for k, frame in SPOILT:
         yield spectrum(OCTAGONS[k], frame) + spectrum(OCTAGONS[k], frame, 0)
     for count in 7, 9, 0:
@@ -155,12 +164,12 @@ def on_spectra():
 
 SURVEY = [-7.31, -12.85, 3.44, -14.2, 10.375, -11.06, 12.9, -5.625, 11.7, 1.52, 5.08, 6.125, -1.96, 5.9, -8.4, 0.77, -9.875, -6.3]
 EDGES = [[0.125, -0.125], [0.375, -0.375], [0.12499999999999999, -0.12500000000000003], [0.37499999999999994, -0.37500000000000006]]
-EDGES += [[-0.0, 0.0], [4000.1249999999995, -4000.125], [-4000.125, 4000.1249999999995]]
-LENGTHS = [[5000.5, nan, 1.3, inf, 6000.75][:n] for n in (0, 1, 3, 5)]
+EDGES += [[-0.0, 0.0], [500000.12499999994, -500000.125], [-500000.125, 500000.12499999994]]
+LENGTHS = [[500500.5, nan, 1.3, inf, 600000.75][:n] for n in (0, 1, 3, 5)]
 NOT_FINITE = [[nan, 2.6], [3.1, inf], [-inf, -2.2], [1.4, 2.7, -3.3, 4.6, 5.8, nan]]
-NOT_FINITE += [[4001.5, nan], [inf, -4002.25], [2.9, -inf, 4003.75, 1.1]]
-OFF_MAP = [[4000.125, 1.7], [-2.8, 4000.125], [-4000.1250000000005, 3.9], [4.2, -4000.1250000000005]]
-OFF_MAP += [[1.0e300, -2.0e300], [5.3, -6.4, 7.6, -8000.0], [-4005.5, 6.6, nan, 7.7]]
+NOT_FINITE += [[500001.5, nan], [inf, -500002.25], [2.9, -inf, 500003.75, 1.1]]
+OFF_MAP = [[500000.125, 1.7], [-2.8, 500000.125], [-500000.12500000006, 3.9], [4.2, -500000.12500000006]]
+OFF_MAP += [[1.0e300, -2.0e300], [5.3, -6.4, 7.6, -900000.0], [-500005.5, 6.6, nan, 7.7]]
 
 
 def on_tape(tape, places=8):
@@ -178,10 +187,10 @@ def on_tapes():
 # ---- trees
 
 CLEAR = [(-37, 52, 0), (9, -4, 1), (-6, -11, 3), (23, 14, 5), (-1234, 5678, 255)]
-CLEAR += [(15745, -31, 255), (17, 15746, 254), (-15995, 42, 5), (-8, -15997, 3)]
-TOO_WIDE = [(2, 7, 256), (-40000, 6, 511), (MIN, MAX, 2**32 - 1)]
-PAST_EDGE = [(15746, -31, 255), (17, 15747, 254), (-15996, 42, 5), (-8, -15998, 3)]
-PAST_EDGE += [(16001, 10, 0), (-12, -16001, 0), (MAX, 4, 255), (-3, MIN, 255)]
+CLEAR += [(1999745, -31, 255), (17, 1999746, 254), (-1999995, 42, 5), (-8, -1999997, 3)]
+TOO_WIDE = [(2, 7, 256), (-4000000, 6, 511), (MIN, MAX, 2**32 - 1)]
+PAST_EDGE = [(1999746, -31, 255), (17, 1999747, 254), (-1999996, 42, 5), (-8, -1999998, 3)]
+PAST_EDGE += [(2000001, 10, 0), (-12, -2000001, 0), (MAX, 4, 255), (-3, MIN, 255)]
 
 
 def clearance(tree, places=8):
@@ -198,13 +207,15 @@ def on_trees():
 
 # ---- sheets
 
+ROOM = 163
+
 
 def sheet_start(buffer, heading):
     length = [101]
     return line("sheet_start", called(True, lambda: [[sheets.start(buffer, heading)]], length), length, [buffer.hex()])
 
 
-def sheet_insert(buffer, length, plot, start, sides, fee, room=103):
+def sheet_insert(buffer, length, plot, start, sides, fee, room=ROOM):
     """The call on the first bytes of a buffer."""
     grown, lent = [101], bytearray(buffer[:room])
     fits = len(start) == 2 and len(sides) == 8
@@ -240,7 +251,7 @@ def listed(buffer, length):
     return line("list", 0, [len(text), TEXT]) + "\n" + text
 
 
-BUFFER = bytes([*range(32, 127), *range(128, 136)])
+BUFFER = bytes([*range(32, 127), *range(128, 196)])
 START, SIDES = [-4, -5], [3, 1, 14, 2, 5, 4, 6, 7]
 WEST = (513, [-1000, 2000], [303, 1, 714, 2, 305, 4, 706, 7])
 SOUTH = ([-8, -11], [6, 7, 3, 1, 14, 2, 5, 4])
@@ -260,19 +271,19 @@ def records(buffer, length, cut):
 
 
 def started(buffer):
-    yield sheet_start(buffer, 88) + sheet_start(buffer, 3)
+    yield sheet_start(buffer, 148) + sheet_start(buffer, 3)
     yield sheet_insert(buffer, 19, 70001, START, SIDES, 1800)
-    yield sheet_insert(buffer, 45, *WEST, 65535)
-    yield sheet_insert(buffer, 71, 16909060, *SOUTH, 0)
-    yield from refused_plots(buffer, 97, 103)
-    yield from records(buffer, 97, 96)
+    yield sheet_insert(buffer, 65, *WEST, 65535)
+    yield sheet_insert(buffer, 111, 16909060, *SOUTH, 0)
+    yield from refused_plots(buffer, 157, ROOM)
+    yield from records(buffer, 157, 156)
 
 
 def narrow(buffer):
     yield from records(buffer, 67, 66)
-    yield from refused_plots(buffer, 67, 91)
-    yield sheet_insert(buffer, 67, 70000, *SOUTH, 256)
-    yield from records(buffer, 97, 96)
+    yield from refused_plots(buffer, 67, 113)
+    yield sheet_insert(buffer, 67, 31337, WIDE[:2], WIDE[2], 256)
+    yield from records(buffer, 157, 156)
 
 
 OLD = sheets.old_sheet(BUFFER[:3], (513, (-1000, 2000, WEST[2])), (70001, (-4, -5, SIDES)))
@@ -283,42 +294,68 @@ def on_sheets():
     buffer, other = bytearray(BUFFER), bytearray(NARROW)
     yield from started(buffer)
     yield from narrow(other)
-    yield listed(buffer, 97) + listed(NARROW, 67) + listed(other, 97)
+    yield listed(buffer, 157) + listed(NARROW, 67) + listed(other, 157)
     buffer[3:5] = b"\0\0"
-    yield both(buffer, 97, 0) + both(buffer, 97, 3) + listed(buffer, 97)
+    yield both(buffer, 157, 0) + both(buffer, 157, 3) + listed(buffer, 157)
 
 
-# ---- joins
+# ---- joins and conversions
 
-HALF = sheets.sheet(b"south", (770, (21, -33, [15, 11, 18, 9, 22, 8, 17, 13]), 258), (70001, (-4, -5, SIDES), 0)) + b"wxyz"
+SOUTH_WEST = (770, (21, -33, [15, 11, 18, 9, 22, 8, 17, 13]), 258)
+HALF = sheets.laid(26, b"south", SOUTH_WEST, (70001, (-4, -5, SIDES), 0)) + b"wxyz"
+COUNTY = sheets.sheet(b"shire", (513, (-1000, 2000, WEST[2]), 0), (31337, WIDE, 4077)) + b"tuv"
+
+
+def written(name, call, room, *sources):
+    """A call that writes a sheet to the first bytes of a buffer and only reads the others."""
+    length, lent = [101], bytearray(BUFFER[:room])
+    answer = called(True, lambda: [[call(lent)]], length)
+    return line(name, answer, length, [lent.hex()] + [source.hex() for source in sources])
 
 
 def sheet_join(first, first_length, second, second_length, room):
-    """The call on the first bytes of a buffer."""
-    length, lent = [101], bytearray(BUFFER[:room])
-    answer = called(True, lambda: [[join(first, first_length, second, second_length, lent)]], length)
-    return line("sheet_join", answer, length, [lent.hex(), first.hex(), second.hex()])
+    return written("sheet_join", lambda lent: join(first, first_length, second, second_length, lent), room, first, second)
 
 
-def changed(at, byte):
-    return HALF[:at] + bytes([byte]) + HALF[at + 1 :]
+def sheet_convert(first, length, room):
+    return written("sheet_convert", lambda lent: sheets.convert(first, length, lent), room, first)
+
+
+def changed(sheet, at, byte):
+    return sheet[:at] + bytes([byte]) + sheet[at + 1 :]
 
 
 def on_joins():
-    for room in (103, 97):
+    for room in (163, 157):
         yield sheet_join(NARROW, 67, HALF, 73, room)
-    for room in (103, 99):
+    for room in (163, 159):
         yield sheet_join(HALF, 73, NARROW, 67, room)
-    yield sheet_join(NARROW, 67, NARROW, 67, 75)
-    yield sheet_join(NARROW, 67, HALF, 73, 96) + sheet_join(HALF, 73, NARROW, 67, 98) + sheet_join(NARROW, 67, HALF, 73, 0)
-    half = changed(55, 1)
-    yield sheet_join(NARROW, 67, half, 73, 103) + sheet_join(half, 73, NARROW, 67, 103) + sheet_join(NARROW, 67, half, 73, 0)
-    for first_length, second_length, room in (15, 72, 103), (66, 15, 103), (67, 78, 103), (67, 72, 0):
+    yield sheet_join(NARROW, 67, NARROW, 67, 111)
+    yield sheet_join(NARROW, 67, COUNTY, 113, 157) + sheet_join(COUNTY, 113, NARROW, 67, 163)
+    yield sheet_join(NARROW, 67, HALF, 73, 156) + sheet_join(HALF, 73, NARROW, 67, 158) + sheet_join(NARROW, 67, HALF, 73, 0)
+    half = changed(HALF, 55, 1)
+    yield sheet_join(NARROW, 67, half, 73, 163) + sheet_join(half, 73, NARROW, 67, 163) + sheet_join(NARROW, 67, half, 73, 0)
+    for first_length, second_length, room in (15, 72, 163), (66, 15, 163), (67, 78, 163), (67, 72, 0):
         yield sheet_join(NARROW, first_length, half, second_length, room)
-    yield sheet_join(changed(57, 51), 73, NARROW, 15, 103) + sheet_join(NARROW, 67, changed(7, 2), 73, 103)
-    yield sheet_join(NARROW, 67, changed(13, 16), 73, 103) + sheet_join(changed(10, 127), 73, NARROW, 66, 103)
+    yield sheet_join(changed(HALF, 57, 51), 73, NARROW, 15, 163)
+    for at, byte in (7, 2), (13, 16):
+        yield sheet_join(NARROW, 67, changed(HALF, at, byte), 73, 163)
+    yield sheet_join(changed(HALF, 10, 127), 73, NARROW, 66, 163)
+
+
+def on_conversions():
+    joined = bytearray(BUFFER)
+    assert join(NARROW, 67, HALF, 73, joined) == 157
+    for sheet, length, rooms in (NARROW, 67, (163, 71, 70, 0)), (HALF, 73, (163, 73, 72)), (bytes(joined), 157, (163, 97, 96)):
+        for room in rooms:
+            yield sheet_convert(sheet, length, room)
+    for length, room in (113, 163), (113, 0), (15, 163), (117, 163), (112, 163):
+        yield sheet_convert(COUNTY, length, room)
+    for at, byte, room in (97, 51, 0), (7, 1, 163), (63, 164, 163), (57, 224, 0):
+        yield sheet_convert(changed(COUNTY, at, byte), 113, room)
+    yield sheet_convert(changed(HALF, 10, 127), 73, 163)
 
 
 if __name__ == "__main__":
-    for part in octagons, on_spectra, on_tapes, on_trees, on_sheets, on_joins:
+    for part in octagons, on_spectra, on_tapes, on_trees, on_sheets, on_joins, on_conversions:
         print("".join(part()), end="")

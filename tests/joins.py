@@ -1,5 +1,6 @@
 #!/usr/bin/env python3
-"""Joins of two sheets by document 02 (U6), worked out apart from the crates: a dictionary of plots by number. join_pairs.py has the pairs.
+"""Joins of two sheets by document 02 (U6), worked out apart from the crates: a dictionary of plots by number. join_pairs.py has the pairs, and
+conversions.py the sheets that the same program converts.
 
     python3 tests/joins.py write    writes stdin and stdout of crates/join_cases
     python3 tests/joins.py try      runs crates/join_cases/out/join_cases, as `rt run` leaves it in crates/join_cases, on 4,000 random pairs
@@ -13,12 +14,15 @@ import subprocess
 import sys
 
 import sheets
-from sheets import LIMIT, Refused, check, frame, insert, old_sheet, sheet, start
+from sheets import LIMIT, MAPS, Refused, check, convert, heading_of, insert, laid, lay, sheet, start
 from tapes import mixed, words
 
 # the room for a sheet, and the most bytes of a third buffer that are written one by one: of more, their digest is written
 ROOM = 65600
 SHOWN = 512
+
+# which sheets a call joins: the first and the second, the second and the first, the first and itself; or it converts the first
+BOTH, TURNED, ITSELF, CONVERTED = range(4)
 
 # ---- a join
 
@@ -26,7 +30,7 @@ SHOWN = 512
 def opened(buffer, length):
     """The heading of a sheet, and its plots by number, each [i, j, sides, fee row]."""
     plots = {number: plot for number, *plot, _ in check(buffer, length)}
-    return bytes(buffer[: frame(buffer, length)[1]]), plots
+    return heading_of(buffer, length), plots
 
 
 def join(first, first_length, second, second_length, third):
@@ -34,11 +38,7 @@ def join(first, first_length, second, second_length, third):
     for number, plot in opened(second, second_length)[1].items():
         if plots.setdefault(number, plot) != plot:
             raise Refused(18)
-    data = sheet(heading, *((number, plot[:3], plot[3]) for number, plot in sorted(plots.items())))
-    if len(data) > len(third) or len(data) > LIMIT:
-        raise Refused(12)
-    third[: len(data)] = data
-    return len(data)
+    return lay(third, sheet(heading, *((number, plot[:3], plot[3]) for number, plot in sorted(plots.items()))))
 
 
 def answer(call):
@@ -62,14 +62,15 @@ def by_inserts(heading, plots, room):
 
 
 def assert_laws(first, second):
-    """Of sheets, each with its length: the joined sheet has the plots of both, whichever comes first, and its bytes, of up to 20 plots, are those of inserts."""
+    """Of sheets, each with its length: the joined sheet has the plots of both, whichever comes first, and its bytes, of up to 20 plots, are those
+    of inserts."""
     for one, two in (first, second), (second, first):
         (heading, plots), (_, others) = opened(*one), opened(*two)
         third = bytearray(2 * ROOM)
         said = answer(lambda: join(*one, *two, third))
         if {**plots, **others} != {**others, **plots}:
             assert said == "refused 18"
-        elif len(heading) + 26 * len({*plots, *others}) + 16 > LIMIT:
+        elif len(heading) + 46 * len({*plots, *others}) + 16 > LIMIT:
             assert said == "refused 12"
         else:
             length = int(said.split()[1])
@@ -92,13 +93,33 @@ def read(pairs):
     return out
 
 
+def joined(one, two, third):
+    """What a join of sheets, each with its length, answers, once what holds of a join is found to hold."""
+    said = answer(lambda: join(*one, *two, third))
+    if said.split()[0] == "length" or said in ("refused 18", "refused 12"):
+        assert_laws(one, two)
+    return said
+
+
+def converted(data, length, third):
+    """The same for a conversion: the copy has the heading and the plots of the sheet, and its own copy is the same."""
+    said = answer(lambda: convert(data, length, third))
+    if said.startswith("length"):
+        copy = third[: int(said.split()[1])]
+        again = bytearray(len(copy))
+        assert opened(copy, len(copy)) == opened(data, length)
+        assert convert(copy, len(copy), again) == len(copy) and copy == again
+    return said
+
+
 def called(name, first, second, way, first_length, second_length, room):
     """What it writes of a call: the answer, and all bytes of the third buffer, or their digest."""
-    one, two = [(first, second), (second, first), (first, first)][way]
     third = bytearray(k % 251 for k in range(room))
-    said = answer(lambda: join(one, first_length, two, second_length, third))
-    if said.split()[0] == "length" or said in ("refused 18", "refused 12"):
-        assert_laws((one, first_length), (two, second_length))
+    if way == CONVERTED:
+        said = converted(first, first_length, third)
+    else:
+        one, two = [(first, second), (second, first), (first, first)][way]
+        said = joined((one, first_length), (two, second_length), third)
     return "%-8s %s\n%s\n" % (name, said, third.hex() if room <= SHOWN else "digest %d" % mixed(0, third))
 
 
@@ -126,32 +147,34 @@ def rooms(first, second):
     return [length, length - 1, length + 9, 0]
 
 
-def random_plots(rng):
-    """Plots for two sheets, each for the first, for the second or for both, and then the same in both but for few."""
+def random_plots(rng, limit):
+    """Plots for two sheets on a map, each for the first, for the second or for both, and then the same in both but for few."""
     most = rng.choice([12, 300, 2**32])
     for number in sorted(rng.sample(range(1, most), rng.choice([0, 1, 2, 4, 7]))):
-        one = sheets.random_outline(rng), rng.choice([0, sheets.random_fee(rng)])
-        two = one if rng.random() < 0.97 else rng.choice([(one[0], sheets.random_fee(rng)), (sheets.random_outline(rng), one[1])])
+        one = sheets.random_outline(rng, limit), rng.choice([0, sheets.random_fee(rng)])
+        two = one if rng.random() < 0.97 else rng.choice([(one[0], sheets.random_fee(rng)), (sheets.random_outline(rng, limit), one[1])])
         which = rng.choice(["first", "second", "both"])
         yield number, one if which != "second" else None, two if which != "first" else None
 
 
-def random_sheet(rng, plots):
+def random_sheet(rng, limit, plots):
+    """These plots by any record length whose map is as large as theirs."""
     heading = rng.randbytes(rng.choice([0, 0, 1, 7, 30]))
-    if rng.random() < 0.4:
-        return old_sheet(heading, *((number, outline) for number, (outline, _) in plots))
-    return sheet(heading, *((number, outline, fee) for number, (outline, fee) in plots))
+    size = rng.choice([size for size in MAPS if MAPS[size] >= limit])
+    return laid(size, heading, *((number, outline, fee) for number, (outline, fee) in plots))
 
 
 def random_pair(rng, name):
     """At times one of the sheets is any sheet, which may be spoilt and is no longer than 300 bytes, or a length is another."""
-    plots = list(random_plots(rng))
-    both = [random_sheet(rng, [(number, found[k]) for number, *found in plots if found[k]]) for k in (0, 1)]
+    limit = rng.choice([sheets.OLD_MAP, sheets.OLD_MAP, sheets.MAP])
+    plots = list(random_plots(rng, limit))
+    both = [random_sheet(rng, limit, [(number, found[k]) for number, *found in plots if found[k]]) for k in (0, 1)]
     if rng.random() < 0.1:
         both[rng.randrange(2)] = sheets.random_sheet(rng)[-300:]
     lengths = [len(data) if rng.random() < 0.97 else rng.randrange(len(data) + 2) for data in both]
     room = rng.choice(rooms(*both) + [rng.randrange(400)])
-    return name, (0, both[0], len(both[0])), (0, both[1], len(both[1])), [(0, *lengths, room), (1, *lengths[::-1], room)]
+    calls = [(BOTH, *lengths, room), (TURNED, *lengths[::-1], room), (CONVERTED, lengths[0], 0, rng.choice([room, rng.randrange(300)]))]
+    return name, (0, both[0], len(both[0])), (0, both[1], len(both[1])), calls
 
 
 # ---- the files, and the program on random pairs
@@ -165,9 +188,10 @@ def tally(out):
 
 
 def write():
-    from join_pairs import pairs  # that file stands on this one
+    from conversions import conversions  # these files stand on this one
+    from join_pairs import pairs
 
-    made = list(pairs())
+    made = list(pairs()) + list(conversions())
     given, expected = read(made), written(made)
     for name, data in (("crates/join_cases/stdin", given), ("crates/join_cases/stdout", expected)):
         with open(name, "wb") as f:

@@ -4,7 +4,8 @@
     python3 tests/listing.py [PROGRAM]    runs crates/listing/out/listing, as `rt run` leaves it in crates/listing, or PROGRAM
 
 Each case holds standard output, standard error and the status to what is expected, byte for byte. The sheets and their listings are
-those of tests/sheets.py. Run it from the top of the repository, on Linux. It needs Python 3.9 or newer and nothing else.
+those of tests/sheets.py, and those of tests/old_sheets/ with the listings kept there. Run it from the top of the repository, on Linux. It
+needs Python 3.9 or newer and nothing else.
 """
 import fcntl
 import functools
@@ -17,7 +18,8 @@ import subprocess
 import sys
 import time
 
-from sheets import OLD, SAMPLE, listing, numbered, old_numbered, old_sheet, sheet
+from old import LISTINGS, OLD_SHEETS, SAMPLE_24, SAMPLE_26
+from sheets import SAMPLE, county, laid, listing, numbered, sheet
 
 PROGRAM = sys.argv[1] if len(sys.argv) > 1 else "crates/listing/out/listing"
 UNREAD = b"listing: the input could not be read\n"
@@ -29,8 +31,9 @@ CASES = []
 
 
 NESTED = sheet(SAMPLE, *numbered(3))  # its heading is itself a sheet
-LARGEST = sheet(b"", *numbered(*range(1, 2521)))  # 65,536 bytes, by 26 a record
-FULLEST = old_sheet(b"", *old_numbered(*range(1, 2731)))  # 65,536 bytes, by 24 a record: more plots, and a longer listing
+LARGEST = sheet(b"sixteen letters.", *numbered(*range(1, 1425), outline=county))  # 65,536 bytes, by 46 a record
+OLD_LARGEST = laid(26, b"", *numbered(*range(1, 2521)))  # as many bytes, by 26 a record
+FULLEST = laid(24, b"", *numbered(*range(1, 2731)))  # as many, by 24 a record: the most plots
 
 
 @functools.lru_cache()
@@ -138,9 +141,17 @@ def nested_sheet():
 
 @case
 def records_without_fee_rows():
-    assert listed(OLD)[0] != listed(SAMPLE)[0] and listed(OLD)[0].count(b" 0\n") == 3
-    yield from_pipe(OLD, True, True), listed(OLD)
-    yield from_pipe(SAMPLE + OLD, True, True), listed(OLD)
+    assert listed(SAMPLE_24)[0] != listed(SAMPLE)[0] and listed(SAMPLE_24)[0].count(b" 0\n") == 3
+    yield from_pipe(SAMPLE_24, True, True), listed(SAMPLE_24)
+    yield from_pipe(SAMPLE + SAMPLE_24, True, True), listed(SAMPLE_24)
+
+
+@case
+def old_sheets():
+    """They are listed as kept beside them; the sample by 26 as the sample by 46 is."""
+    assert listed(SAMPLE_26) == listed(SAMPLE)
+    for name, data in OLD_SHEETS.items():
+        yield from_pipe(data, True, True), (LISTINGS[name].encode(), b"", 0)
 
 
 @case
@@ -176,7 +187,7 @@ def byte_by_byte():
 
 @case
 def longest_and_longer():
-    for longest in LARGEST, FULLEST:
+    for longest in LARGEST, OLD_LARGEST, FULLEST:
         longer = b"x" + longest
         assert len(longest) == 65536 and listed(longest)[0].startswith(b"plot") and listed(longer)[0] == b"refused 8\n"
         yield from_pipe(longest, True, True), listed(longest)

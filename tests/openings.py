@@ -4,6 +4,8 @@ frame, and the cells that are lost from each to the next.
 It shares nothing with the library. An opening by n folds is n trims and then n spreads, taken cell by cell; where no octagon has just
 the cells that it leaves, those of the smallest that holds them are counted. A refusal is raised with its number.
 """
+import functools
+
 from cells import filled_up, positions, some, sums, tightest
 from sheets import Refused
 
@@ -29,7 +31,7 @@ def opened(plot, frame, n):
 
 
 def losses(plot, opening):
-    """The cells lost from each number of folds to the next, until nothing is open. They are sets, or the bits of numbers."""
+    """The cells lost from each number of folds to the next, until nothing is open."""
     lost, still = [], plot
     while still:
         now = opening(len(lost) + 1)
@@ -70,10 +72,26 @@ def opened_along(row, n):
     return row
 
 
+def lost_between(opening, low, high):
+    """How many bits are lost from each number of folds to the next, from low to high: an opening has all the bits of one by more folds, so
+    that nothing is lost between two that are equal."""
+    more, less = opening(low), opening(high)
+    assert more | less == more
+    if more == less:
+        return [0] * (high - low)
+    if high - low == 1:
+        return [bin(more ^ less).count("1")]
+    middle = (low + high) // 2
+    return lost_between(opening, low, middle) + lost_between(opening, middle, high)
+
+
 def entries_along(width):
-    """The entries of two rows of so many cells by the cells (0, 0) and (1, 0): each row is opened by itself, and both alike."""
+    """The entries of two rows of so many cells by the cells (0, 0) and (1, 0): each row is opened by itself, and both alike. As many folds as
+    a row has cells open nothing, and one fold less opens something."""
     row = (1 << width) - 1
-    return [2 * bin(cells).count("1") for cells in losses(row, lambda n: opened_along(row, n))]
+    opening = functools.lru_cache(None)(lambda n: opened_along(row, n))
+    assert opening(width - 1) and not opening(width)
+    return [2 * lost for lost in lost_between(opening, 0, width)]
 
 
 # by bits as by sets

@@ -1,5 +1,5 @@
 """What crates/sheet_cases writes of an answer: lines of words and numbers, digests and listings, by the model of tests/sheets.py."""
-from sheets import Refused, check, fee_row, fetch, insert, listing, read
+from sheets import Refused, check, convert, fee_row, fetch, insert, listing, read
 
 PAST = 170
 
@@ -32,6 +32,19 @@ class Words:
     def tell_added(self, buffer, length, number, outline, fee=None):
         fee = fee_row(number) if fee is None else fee
         return self.tell("length", lambda: insert(buffer, length, number, *outline, fee), length)
+
+    def converted_to(self, buffer, length, second, room):
+        """The length of a sheet that is converted into the first bytes of a second buffer; 0 after a refusal."""
+        lent = second[:room]
+        made = self.tell("length", lambda: convert(buffer, length, lent), 0)
+        second[:room] = lent
+        return made
+
+    def tell_converted(self, buffer, length, room=240):
+        second = bytearray([PAST] * 240)
+        made = self.converted_to(buffer, length, second, room)
+        self.say_digest(second)
+        return made
 
     def say_record(self, word, call):
         def line():

@@ -6,7 +6,8 @@
 It shares with the program its operands, its draws and the form of a line. A plot and a frame are sets of cells, enumerated one by one.
 The plot opened by n folds is what source document 004's (8) says, the union of the places of the folded frame inside the plot, and has to be
 what n trims and then n spreads give, as document 02 has it. Where these are the cells of no octagon, those of the smallest that holds them
-are taken. Of rows and blocks too large for that, the spectrum follows from what a row is, and the same is tried on small ones.
+are taken. Of plots too large for that, rows, squares and a strip of three rows, the spectrum follows from what they are, and the same is tried
+on small ones.
 
 A refusal is raised with its number. It needs Python 3.9 or newer and nothing else.
 """
@@ -18,9 +19,15 @@ import sys
 from cells import LIMIT, are_opposed, forms, on_map, positions, sums, tightest, within
 from openings import entries_along, losses, put
 from sheets import STEPS, Refused
-from tapes import mixed
 
 MAX = 2**31 - 1
+
+
+def mixed(digest, numbers):
+    for n in numbers:
+        digest = (digest * 69069 + n) % 2**64
+    return digest
+
 
 # ---- a spectrum
 
@@ -96,11 +103,11 @@ SHOWN_PLACES = 24
 tally = collections.Counter()
 
 
-def told(plot, frame, count, found=None):
-    """The line of a call with so many places, 901, 902 and on before it; and a digest of the answer and the list. The spectrum may be known."""
+def told(plot, frame, count, known=None):
+    """The line of a call with so many places, 901, 902 and on before it; and a digest of the answer and the list. `known` may give the spectrum."""
     places = list(range(901, 901 + count))
     try:
-        entries, marks = found or spectrum(*operands(plot, frame))
+        entries, marks = known() if known else spectrum(*operands(plot, frame))
         number, finished = put(entries, places)
         case = "finished" if finished else "spent"
         tally[case] += 1
@@ -162,10 +169,10 @@ def by_hand():
 
 PLOT, OPPOSED, ORIGIN = BY_HAND[0][0], BY_HAND[2][1], [0] * 8
 # no cell, though each two of the bounds have some in common; two cells off the map; no cell; four cells without (0, 0)
-NONE, PAST = [5, 0, 5, 1, 5, 0, 5, -1], [-3, 15998, 16001, 16005, 4, -15995, -15999, -16002]
+NONE, PAST = [5, 0, 5, 1, 5, 0, 5, -1], [-3, 1999998, 2000001, 2000005, 4, -1999995, -1999999, -2000002]
 NO_ROW, BESIDE = [-3, 9, 9, 9, 2, 9, 9, 9], [0, 2, 2, 3, 1, 0, -1, -1]
 # a cell off the map, and the cells from (0, 0) to one; the cell east of (0, 0), three beside it, the cell south-west of it; (0, 0) alone, by bounds that are not all reached
-OFF_MAP = [2, 16003, 16001, 15999, -2, -16003, -16001, -15999], [0, MAX, 16001, MAX, 0, MAX, 0, MAX]
+OFF_MAP = [2, 2000003, 2000001, 1999999, -2, -2000003, -2000001, -1999999], [0, MAX, 2000001, MAX, 0, MAX, 0, MAX]
 NO_ORIGIN = BESIDE, [0, 1, 1, 1, 0, -1, -1, -1], [0, 1, 1, 2, 1, 1, 0, -1], [1, 0, -1, -2, -1, 0, 1, 2]
 ALONE = ORIGIN, [0, 7, 0, 9, 0, 8, 0, 6], [MAX, 0] * 4, [5, 0, 6, 1, 7, 0, 8, 1]
 REFUSED = [(NONE, BESIDE), (NONE, ORIGIN), (PAST, NO_ROW), (PAST, BESIDE), (PAST, ORIGIN)]
@@ -206,7 +213,7 @@ def draws():
         a = after(c)
         b = after(a)
         c = after(b)
-        x, y = 15990 + b % 16 if k % 16 == 15 else b % 61 - 30, b // 61 % 61 - 30
+        x, y = 1999990 + b % 16 if k % 16 == 15 else b % 61 - 30, b // 61 % 61 - 30
         yield about(x, y, a, PLOTS[k % 6]), about(0, 0, c, FRAMES[k // 6 % 10]), b // 3721 % 25
 
 
@@ -230,26 +237,58 @@ SIDE, HALF = 2 * LIMIT + 1, LIMIT + 1
 def whole(k, m, cells):
     """The spectrum, and that nothing is filled, of a row of k cells by a row of m along it; or of a square of k rows by one of m. The frame folded
     n times is a row of n * (m - 1) + 1 cells. As long as that fits, it fits side by side from end to end, and every cell is open; then none."""
-    folds = max(n for n in range(k) if n * (m - 1) + 1 <= k)
+    folds = (k - 1) // (m - 1)
     return [0] * folds + [cells], [False] * (folds + 1)
 
 
-def assert_whole():
-    """It holds of short rows along each of the eight steps, and of small squares, wherever (0, 0) is in the frame; and of two long rows by bits."""
+def cornered(h, s):
+    """The same of a square of 2 * h + 1 rows by a diamond that reaches s cells each way. Folded n times it reaches n * s, and in each corner of the
+    square leaves rows of one cell, two, and on to n * s, until it does not fit."""
+    lost = [4 * sum(range(r + 1, r + s + 1)) for r in range(0, h - s + 1, s)]
+    return lost + [(2 * h + 1) ** 2 - sum(lost)], [False] * (len(lost) + 1)
+
+
+def striped(h):
+    """The same of the cells of such a square on its rising diagonal and beside it by a falling pair. The pair stands with one cell on each side of
+    the diagonal, and once only; between the rows beside the diagonal, its cells but the two ends are filled."""
+    return [2, 2 * (2 * h) + 2 * h - 1], [True, False]
+
+
+def square(low, high):
+    return set(itertools.product(range(low, high + 1), repeat=2))
+
+
+def diamond(x, y, s):
+    """The cells that are at most s steps from (x, y)."""
+    return {(x + u, y + v) for u in range(-s, s + 1) for v in range(-s, s + 1) if abs(u) + abs(v) <= s}
+
+
+def is_spectrum(plot, frame, known):
+    return spectrum(frozenset(plot), frozenset(frame)) == known
+
+
+def assert_known():
+    """They hold of short rows along each of the eight steps, of small squares and small strips, wherever (0, 0) is in the frame; and the first of two
+    long rows by bits."""
     assert whole(SIDE, 2, 2 * SIDE)[0] == entries_along(SIDE)
     for k, m in itertools.product(range(1, 8), range(2, 5)):
         for first in range(1 - m, 1):
             for dx, dy in STEPS:
                 plot, frame = ({(dx * i, dy * i) for i in run} for run in (range(5, 5 + k), range(first, first + m)))
-                assert spectrum(frozenset(plot), frozenset(frame)) == whole(k, m, k)
-            plot, frame = (itertools.product(run, run) for run in (range(5, 5 + k), range(first, first + m)))
-            assert spectrum(frozenset(plot), frozenset(frame)) == whole(k, m, k * k)
+                assert is_spectrum(plot, frame, whole(k, m, k))
+            assert is_spectrum(square(5, 4 + k), square(first, first + m - 1), whole(k, m, k * k))
+    for h, s in itertools.product(range(1, 7), range(1, 4)):
+        for x, y in diamond(0, 0, s):
+            assert is_spectrum(square(5 - h, 5 + h), diamond(x, y, s), cornered(h, s))
+        strip = {(x, y) for x, y in square(5 - h, 5 + h) if abs(x - y) <= 1}
+        assert all(is_spectrum(strip, {(0, 0), other}, striped(h)) for other in ((1, -1), (-1, 1)))
 
 
+EDGE_ROW, EDGE_COLUMN = [-5, MAX, LIMIT, MAX, 5, MAX, 4000 - LIMIT, MAX], [LIMIT, MAX, -9, MAX, 4000 - LIMIT, MAX, 9, MAX]
 ROW, COLUMN, MAP = [-5, MAX, LIMIT, MAX, 5, MAX, LIMIT, MAX], [LIMIT, MAX, -LIMIT, MAX, LIMIT, MAX, LIMIT, MAX], [LIMIT, MAX] * 4
 RISING, FALLING = [LIMIT, 0, LIMIT, MAX, LIMIT, 0, LIMIT, MAX], [LIMIT, MAX, LIMIT, 0, LIMIT, MAX, LIMIT, 0]
-# three rising rows side by side
 STRIP = [LIMIT, 1, LIMIT, SIDE, LIMIT, 1, LIMIT, SIDE]
+DIAMOND = tightest(diamond(300, -400, 1000))
 
 
 def along(east, west):
@@ -257,26 +296,32 @@ def along(east, west):
     return [0, MAX, east, MAX, 0, MAX, west, MAX]
 
 
-# the operands, how many places there are, and the spectrum, if the cells are too many to be enumerated
+# the operands, how many places there are, and the spectrum, or the refusal of a cell of the frame
 FAR = [
-    (ROW, along(1, 0), SIDE, whole(SIDE, 2, SIDE)),
-    (ROW, along(1, 0), SIDE - 1, whole(SIDE, 2, SIDE)),
-    (ROW, along(LIMIT, 0), 5, whole(SIDE, HALF, SIDE)),
-    (ROW, along(9999, 10000), 5, whole(SIDE, 20000, SIDE)),
-    (ROW, along(19999, 0), 5, None),
-    (COLUMN, [2, MAX, 0, MAX, 0, MAX, 0, MAX], HALF, whole(SIDE, 3, SIDE)),
-    (RISING, [1, 0, 0, MAX, 0, 0, MAX, MAX], SIDE, whole(SIDE, 2, SIDE)),
-    (FALLING, [MAX, MAX, LIMIT, 0, 0, MAX, 0, 0], 5, whole(SIDE, HALF, SIDE)),
-    (MAP, [1, MAX] * 4, HALF, whole(SIDE, 3, SIDE * SIDE)),
-    (MAP, [0, MAX, LIMIT, MAX, LIMIT, MAX, 0, MAX], 5, whole(SIDE, HALF, SIDE * SIDE)),
-    (STRIP, OPPOSED, 5, None),
+    (EDGE_ROW, along(1, 0), 4001, lambda: whole(4001, 2, 4001)),
+    (EDGE_ROW, along(1, 0), 4000, lambda: whole(4001, 2, 4001)),
+    (EDGE_COLUMN, [2, MAX, 0, MAX, 0, MAX, 0, MAX], 4001, lambda: whole(4001, 3, 4001)),
+    (ROW, along(400, 600), 4001, lambda: whole(SIDE, 1001, SIDE)),
+    (ROW, along(LIMIT, 0), 5, lambda: whole(SIDE, HALF, SIDE)),
+    (ROW, along(1249999, 1250000), 5, lambda: whole(SIDE, 2500000, SIDE)),
+    (ROW, along(2499999, 0), 5, lambda: on_map({(2499999, 0)})),
+    (COLUMN, [1000, MAX, 0, MAX, 0, MAX, 0, MAX], 4001, lambda: whole(SIDE, 1001, SIDE)),
+    (RISING, [MAX, 0, 0, MAX, 0, 0, 1000, MAX], 4000, lambda: whole(SIDE, 1001, SIDE)),
+    (FALLING, [MAX, MAX, LIMIT, 0, 0, MAX, 0, 0], 5, lambda: whole(SIDE, HALF, SIDE)),
+    (STRIP, OPPOSED, 5, lambda: striped(LIMIT)),
+    (MAP, [300, MAX, 600, MAX, 700, MAX, 400, MAX], 4001, lambda: whole(SIDE, 1001, SIDE * SIDE)),
+    (MAP, [0, MAX, LIMIT, MAX, LIMIT, MAX, 0, MAX], 5, lambda: whole(SIDE, HALF, SIDE * SIDE)),
+    (MAP, DIAMOND, 1500, lambda: cornered(LIMIT, 1000)),
+    (MAP, DIAMOND, 2001, lambda: cornered(LIMIT, 1000)),
 ]
 
 
 def far():
-    assert_whole()
-    for case in FAR:
-        yield told(*case)[0]
+    """Each on a line, and then a digest of all."""
+    assert_known()
+    lines, of_calls = zip(*(told(*case) for case in FAR))
+    yield from lines
+    yield "digest of %d pairs %d" % (len(FAR), mixed(0, of_calls))
 
 
 if __name__ == "__main__":

@@ -29,14 +29,14 @@ def edges(cells):
     """Tapes of one point: for each cell its lowest place, the number below and the number above, as east and as north."""
     tapes = []
     for n in cells:
-        other = (n * 7 + 5000) % 30011 / 4 - 3750.8
+        other = (n * 7 + 5000) % 3900017 / 4 - 487500.8
         for metres in (up(float(edge(n)), -1), float(edge(n)), up(float(edge(n)))):
             assert cell(metres) - n == (-1 if metres < edge(n) else 0) and cell(other) != n
             tapes += [[metres, other], [other, metres]]
     return tapes
 
 
-REACHES = [3700.0, 5500.0, 3900.0, 5200.0, 3800.0, 5900.0, 3990.0, 6100.0]
+REACHES = [462000.0, 687000.0, 487000.0, 650000.0, 475000.0, 737000.0, 498000.0, 762000.0]
 
 
 def generated(count):
@@ -45,7 +45,7 @@ def generated(count):
     while len(tape) < 2 * count:
         x = (state * 1103515245 + 12345) % 2**31
         y = state = (x * 1103515245 + 12345) % 2**31
-        east, north = x / 2**18 - 4000.7, y / 2**18 - 4000.3
+        east, north = x / 2**11 - 500000.7, y / 2**11 - 500000.3
         if all(form < most for form, most in zip(forms((east, north)), REACHES)):
             tape += [east, north]
     assert len(set(enclose(tape))) == 8
@@ -60,7 +60,7 @@ def backwards(tape):
 # some wrap round a narrow width
 SPECIALS = [number(bits) for bits in (0x7FF8 << 48, 0xFFF8 << 48, (0x7FF0 << 48) + 1, 2**64 - 1)]
 SPECIALS += [INFINITY, -INFINITY, 0.0, -0.0, 5e-324, -5e-324, 2.0**-1022, -(2.0**-1022), sys.float_info.max, -sys.float_info.max, LIMIT / 4, -LIMIT / 4]
-AFAR = [sign * 2.0**k for k in (12, 28, 29, 30, 31, 48, 50, 51, 52, 53, 61, 62, 63, 64, 1000) for sign in (1, -1)]
+AFAR = [sign * 2.0**k for k in (19, 28, 29, 30, 31, 48, 50, 51, 52, 53, 61, 62, 63, 64, 1000) for sign in (1, -1)]
 AFAR += [1.5 * 2**50, -1.5 * 2**50, 2.0**30 + 0.25, -(2.0**30) - 0.25]
 # numbers on an edge or next below it, which a sum or a product that rounds takes for another cell's
 TRAPS = [0.12499999999999999, 0.37499999999999994, 0.49999999999999994, -0.12500000000000003, -0.375, 0.625, 0.875, -0.625, 2.375, 2.3749999999999996]
@@ -68,15 +68,19 @@ TRAPS = [0.12499999999999999, 0.37499999999999994, 0.49999999999999994, -0.12500
 POINTS = [[1.3, -2.7], [PAST, 0.1], [-0.1, up(-PAST, -1)], [NAN, 5.9], [-7.2, INFINITY], [-9e99, NAN]]
 # each reaches one bound alone
 EIGHT = [[0.3, -20.6], [14.2, -15.4], [19.9, 1.1], [15.1, 16.3], [2.2, 21.4], [-13.3, 18.2], [-22.6, 4.4], [-17.8, -12.9]]
-# eight different sides, at two edges of the map; the map; the largest diamond; one cell; straight and diagonal rows
-OUTLINES = [sheets.wide(15439, 14702), sheets.plot(9), sheets.BLOCK, sheets.DIAMOND, (-LIMIT, -LIMIT, [2 * LIMIT, 0] * 4), (0, -LIMIT, [0, LIMIT] * 4)]
+# eight different sides, long at two edges of the map and short; the map; the largest diamond; one cell; straight and diagonal rows
+OUTLINES = [(LIMIT - 561020, LIMIT - 1361033, [300007, 261013, 1030019, 70001, 887031, 120011, 724999, 516023])]
+OUTLINES += [(-9001, 2, [69, 33, 104, 3, 71, 34, 100, 6]), sheets.BLOCK, sheets.DIAMOND]
+OUTLINES += [(-LIMIT, -LIMIT, [2 * LIMIT, 0] * 4), (0, -LIMIT, [0, LIMIT] * 4)]
 OUTLINES += [(i, j, [0] * 8) for i, j in ((0, 0), (-7, 9), (LIMIT, -LIMIT), (-LIMIT, LIMIT))]
 OUTLINES += [(i, j, [11 * (k % 4 == m) for k in range(8)]) for m, i, j in ((0, -12, -LIMIT), (1, -LIMIT, 3), (2, LIMIT, -LIMIT), (3, LIMIT, -5))]
 
 
 def outline_tapes():
-    """The corners of outlines, by walking."""
-    return [in_metres(sheets.corners(*outline)[:8]) for outline in OUTLINES]
+    """The corners of outlines, by walking until the start."""
+    walks = [sheets.corners(*outline) for outline in OUTLINES]
+    assert all(places[8] == places[0] for places in walks)
+    return [in_metres(places[:8]) for places in walks]
 
 
 def lists():
@@ -90,9 +94,9 @@ def blocks():
     wall, part = generated(4000), generated(400)
     near = sorted(range(-40, 41), key=abs)
     ends = [sign * (LIMIT + 1 - k) for k in range(24) for sign in (1, -1)] + [LIMIT + 2, -LIMIT - 2]
-    spread = list(range(-LIMIT - 1, LIMIT + 2, 97))
-    powers = [sign * 2**k + d for k in range(5, 14) for sign in (1, -1) for d in (-1, 0, 1)]
-    yield "lengths", 9, [[], [NAN], [0.5], [5000.0], [NAN, 1.0, 1.0], [9e9, 1.0, NAN], [0.25] * 7, part + [0.25], part + [NAN]]
+    spread = list(range(-LIMIT - 1, LIMIT + 2, 12119))
+    powers = [sign * 2**k + d for k in range(5, 21) for sign in (1, -1) for d in (-1, 0, 1)]
+    yield "lengths", 9, [[], [NAN], [0.5], [600000.0], [NAN, 1.0, 1.0], [9e9, 1.0, NAN], [0.25] * 7, part + [0.25], part + [NAN]]
     yield "specials", 32, [tape for e in SPECIALS + AFAR for tape in ([e, 77.7], [-5.1, e])]
     yield "pairs", 4, [[a, b] for a in SPECIALS for b in SPECIALS]
     yield "traps", 40, [tape for e in TRAPS for tape in ([e, -1.9], [8.8, e])] + [[e, -e] for e in TRAPS]
@@ -104,7 +108,7 @@ def blocks():
     yield "ends", 36, edges(ends)
     yield "powers", 6, edges(powers)
     for k in range(0, len(spread), 33):
-        yield "n%d" % spread[k], 6, edges(spread[k : k + 33])
+        yield "spread%d" % (k // 33), 6, edges(spread[k : k + 33])
     yield "steps", 4, [[up(float(edge(n)), k), up(float(edge(-n)), -k)] for n in spread[::8] for k in (-9, -3, -2, 2, 3, 9)]
     yield "points", 6, [wall[k : k + 2] for k in range(0, 400, 2)]
     yield "walls", 9, [wall, backwards(wall), part + part, part + backwards(part), part[:2] * 100, part + [NAN, 0.0], part + [0.0, up(-PAST, -1)]]

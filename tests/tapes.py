@@ -80,7 +80,7 @@ def random_number(rng):
         return rng.choice(SPECIALS + AFAR) if kind else number(rng.getrandbits(64))
     if kind < 40:
         return up(float(edge(rng.randint(-LIMIT, LIMIT))), rng.randint(-2, 2))
-    return rng.uniform(-4000.2, 4000.2) if kind < 60 else rng.uniform(-3, 3)
+    return rng.uniform(-500000.2, 500000.2) if kind < 60 else rng.uniform(-3, 3)
 
 
 def random_tape(rng):

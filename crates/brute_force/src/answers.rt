@@ -37,7 +37,7 @@ impl From<Spread> for Marked {
 }
 
 // The map's limit.
-const LIMIT: i64 = 16000;
+const LIMIT: i64 = 2_000_000;
 
 // Whether the greatest -y, x, y or -x of a cell is past the map's limit.
 fn is_off_map(bounds: &Bounds) -> bool {

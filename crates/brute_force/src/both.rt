@@ -26,7 +26,7 @@ fn expect_opened(plot: &Operand, element: &Set) -> Result<Marked, Refusal> {
 }
 
 // The cells of an octagon by the library, or 0.
-fn cells(bounds: &Bounds) -> u32 {
+fn cells(bounds: &Bounds) -> u64 {
     count_cells(bounds.octagon()).unwrap_or(0)
 }
 

@@ -1,7 +1,7 @@
 // Cells of the map, document 01's steps from one to the next, and the left sides of its eight inequalities.
 //
-// No coordinate here is further than 100,000 from 0, so that no sum of two wraps: draws.rt says where the windows of operands stand, and a set
-// is folded at most four times by an operand that is not about (0, 0).
+// No coordinate here is further than 11,000,000 from 0, so that no sum of two wraps: draws.rt says where the windows of operands stand, and a
+// set is folded at most four times by an operand that is not about (0, 0).
 use std::ops::{Add, Sub};
 
 #[derive(Clone, Copy, PartialEq, Eq)]

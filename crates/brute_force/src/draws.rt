@@ -20,8 +20,8 @@ pub struct Draws {
 fn coordinate(draw: u8) -> i32 {
     let n = i32::from(draw / 16);
     match draw % 16 {
-        0 => 15992 + n,
-        1 => -15992 - n,
+        0 => 1_999_992 + n,
+        1 => -1_999_992 - n,
         _ => n - 7,
     }
 }

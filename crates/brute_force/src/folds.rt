@@ -1,6 +1,6 @@
 // The two folds, dilation and erosion: by cells, by the library's calls, and what is expected of many.
 //
-// After as many folds as the limit has, or nearly, a set is in no window, and is told by reasoning.
+// After as many folds as the limit has a set is in no window, and is told by reasoning.
 use crate::answers::{Marked, smallest};
 use crate::calls::Call;
 use crate::cells::ORIGIN;
@@ -16,8 +16,8 @@ pub enum Fold {
     Erosion,
 }
 
-// Document 01's limit of folds.
-pub const FOLD_LIMIT: u32 = 65535;
+// Document 02's limit of folds.
+pub const FOLD_LIMIT: u32 = 4_000_001;
 
 // The rows of the tally for a fold.
 #[derive(Clone, Copy)]
@@ -112,9 +112,9 @@ impl Fold {
         few
     }
 
-    // What is expected after as many folds as the limit has, or up to four fewer: a refusal, or the plot. Two cells of the element, each
-    // that many times, are further apart than the map is wide: a spread has both, and no plot has room for both. One cell that is not
-    // (0, 0) moves every plot off the map.
+    // What is expected after as many folds as the limit has: a refusal, or the plot. Two cells of the element, each that many times, are
+    // further apart than any two of the map: a spread has both, and no plot has room for both. One cell that is not (0, 0) moves every
+    // plot off the map.
     pub fn expect_most(self, pair: &Pair) -> Result<Marked, Refusal> {
         if pair.element.cells.count() != 1 {
             return Err(match self {

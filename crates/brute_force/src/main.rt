@@ -2,7 +2,7 @@
 //
 // What is expected comes from document 01's eight inequalities and steps, its rule for the counts of a split, and the set definitions 2.12
 // to 2.17 of source document 002 alone; no call of the library is made for it. A spread is expected to be filled where no octagon has just
-// the cells of its set, but the second of two to be exact where the first made a fold. As many folds as the limit has, or nearly, are not
+// the cells of its set, but the second of two to be exact where the first made a fold. As many folds as the limit has are not
 // enumerated (folds.rt). tests/brute_force.py works the output out by itself.
 #![tactic(auto)]
 

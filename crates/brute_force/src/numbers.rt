@@ -30,9 +30,9 @@ impl Numbers for Marked {
 }
 
 // A count.
-impl Numbers for usize {
+impl Numbers for u64 {
     fn numbers(&self) -> [u64; 10] {
-        [*self as u64, 0, 0, 0, 0, 0, 0, 0, 0, 0]
+        [*self, 0, 0, 0, 0, 0, 0, 0, 0, 0]
     }
 }
 

@@ -64,9 +64,8 @@ pub fn compare(tally: &mut Tally, operand: &Operand) {
     let normal = normalise(o).map(Marked::from);
     tally.compare(Call::Normalise, &operand.normal, &normal);
 
-    let count = operand.normal.map(|_| operand.cells.count());
-    let counted = count_cells(o).map(|n| n as usize);
-    tally.compare(Call::CountCells, &count, &counted);
+    let count = operand.normal.map(|_| operand.cells.count() as u64);
+    tally.compare(Call::CountCells, &count, &count_cells(o));
 
     let outline = to_outline(o).map(Outline::from);
     tally.compare(Call::ToOutline, &operand.outline(), &outline);

@@ -20,7 +20,7 @@ abbrev pub every_refusal : List Refusal
 every_refusal =
     refusal.NoCell ∷ refusal.OffMap ∷ refusal.NotClosed ∷ refusal.NothingLeft ∷ refusal.TooManyFolds ∷ refusal.NoVertex ∷ refusal.BadLength ∷
     refusal.BadTrailer ∷ refusal.BadDistance ∷ refusal.BadNumber ∷ refusal.NoRoom ∷ refusal.NoRecord ∷ refusal.NotFinite ∷ refusal.NoPoint ∷
-    refusal.HalfPoint ∷ refusal.TooWide ∷ refusal.TwoRecords ∷ refusal.NoOrigin ∷ refusal.NoOtherCell ∷ []
+    refusal.HalfPoint ∷ refusal.TooWide ∷ refusal.TwoRecords ∷ refusal.NoOrigin ∷ refusal.NoOtherCell ∷ refusal.OffOldMap ∷ []
 
 -- each has the number that the documents print
 pub numbers_as_printed : map refusal_number every_refusal ≡ printed_refusals

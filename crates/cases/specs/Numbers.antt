@@ -1,5 +1,5 @@
--- Document 01's limits, refusal numbers and tables, and document 02's refusal numbers, record length and radius limit, with the values that
--- they print, by one computed test over a list. Theorems name constants; this list says what the constants are. Assumes nothing.
+-- The limits, lengths, refusal numbers and fields of documents 01 and 02, and document 01's tables, with the values that they print, by one
+-- computed test over a list. Theorems name constants; this list says what the constants are. Assumes nothing.
 use Rattle.std.specs.Prelude.{◌≡◌, ℕ, ◌*◌, List, [], ◌∷◌, map, replicate, ℤ, pos, neg_ℤ, slice_set, refl}
 use Rattle.octagon.specs.Outcome.{no_cell, off_map}
 use Rattle.octagon.specs.Cells.{limit}
@@ -12,10 +12,10 @@ use Rattle.morphology.specs.Operations.{nothing_left}
 use Rattle.morphology.specs.Folds.{fold_limit, too_many_folds}
 use Rattle.decomposition.specs.Pieces.{outlines, piece_of}
 use Rattle.records.specs.Numbers.{bytes}
-use Rattle.sheet.specs.Layout.{base_layout, base_length, fee_layout, fee_length, record_length}
+use Rattle.sheet.specs.Layout.{base_layout, base_length, fee_layout, fee_length, county_layout, county_length, record_length, old_limit}
 use Rattle.sheet.specs.Trailer.{trailer_length, letters, trailer_layout}
 use Rattle.sheet.specs.Sheets.{sheet_limit}
-use Rattle.sheet.specs.Answers.{bad_length, bad_trailer, bad_distance, bad_number, no_room, no_record, two_records}
+use Rattle.sheet.specs.Answers.{bad_length, bad_trailer, bad_distance, bad_number, no_room, no_record, two_records, off_old_map}
 use Rattle.tape.specs.Snapping.{not_finite}
 use Rattle.tape.specs.Enclosing.{no_point, half_point}
 use Rattle.clearance.specs.Clearing.{radius_limit, too_wide}
@@ -24,26 +24,26 @@ use Rattle.cases.specs.Shorthand.{Case, is}
 
 -- ---- what the documents print
 
--- "both coordinates from -16,000 to 16,000", "6 when n is above 65,535", "8 when the length is .. above 65,536", "A record is 24 bytes",
--- and in document 02 "New records are 26 bytes, and starting a sheet and insert write 26"; "The trailer is 16 bytes"; and in document 02
--- "17 when the radius is above 255"
+-- document 02's U10, "the map runs from -2,000,000 to 2,000,000", and document 01's map, which U10 keeps for sheets of 24 and 26, "both
+-- coordinates from -16,000 to 16,000"; U10, "folds go to 4,000,001"; document 01, "8 when the length is .. above 65,536"; the lengths of a
+-- record in document 01, U2 and U10, and the one that U10 writes; document 01, "The trailer is 16 bytes"; U3, "17 when the radius is above 255"
 abbrev pub printed_limits : List ℕ
-printed_limits = 16000 ∷ 65535 ∷ 65536 ∷ 24 ∷ 26 ∷ 26 ∷ 16 ∷ 255 ∷ []
+printed_limits = 2000000 ∷ 16000 ∷ 4000001 ∷ 65536 ∷ 24 ∷ 26 ∷ 46 ∷ 46 ∷ 16 ∷ 255 ∷ []
 
 -- the refusals: no cell, off the map, not closed, nothing left, too many folds, corner above 7, length, trailer, distance,
 -- plot number, no room, no record; and those of document 02: not finite, no point, half a point, radius above 255, one number for two
--- records, no cell (0, 0), no other cell. Document 02's U4 takes document 01's 4 away
+-- records, no cell (0, 0), no other cell, off the old map. Document 02's U4 takes document 01's 4 away
 abbrev pub printed_refusals : List ℕ
-printed_refusals = 1 ∷ 2 ∷ 3 ∷ 5 ∷ 6 ∷ 7 ∷ 8 ∷ 9 ∷ 10 ∷ 11 ∷ 12 ∷ 13 ∷ 14 ∷ 15 ∷ 16 ∷ 17 ∷ 18 ∷ 19 ∷ 20 ∷ []
+printed_refusals = 1 ∷ 2 ∷ 3 ∷ 5 ∷ 6 ∷ 7 ∷ 8 ∷ 9 ∷ 10 ∷ 11 ∷ 12 ∷ 13 ∷ 14 ∷ 15 ∷ 16 ∷ 17 ∷ 18 ∷ 19 ∷ 20 ∷ 21 ∷ []
 
 -- "the letters GRND"
 abbrev pub printed_letters : List ℕ
 printed_letters = 71 ∷ 82 ∷ 78 ∷ 68 ∷ []
 
--- the fields of a record in bits, "plot number (unsigned 32), i and j (signed 16 each), n0 to n7 (unsigned 16 each)", and last those of the
--- fee row: 0 where there is none, or "an unsigned 16-bit fee row"; and the fields of a trailer
-abbrev pub printed_record_fields : ℕ → List ℕ
-printed_record_fields fee = 32 ∷ 16 ∷ 16 ∷ 16 ∷ 16 ∷ 16 ∷ 16 ∷ 16 ∷ 16 ∷ 16 ∷ 16 ∷ fee ∷ []
+-- the fields of a record in bits, "plot number (unsigned 32), i and j (signed 16 each), n0 to n7 (unsigned 16 each)", or in U10 "plot number,
+-- 32-bit i and j, eight 32-bit sides", and last the fee row: 0 where there is none, or "an unsigned 16-bit fee row"; and the fields of a trailer
+abbrev pub printed_record_fields : ℕ → ℕ → List ℕ
+printed_record_fields each fee = 32 ∷ each ∷ each ∷ each ∷ each ∷ each ∷ each ∷ each ∷ each ∷ each ∷ each ∷ fee ∷ []
 
 abbrev pub printed_trailer_fields : List ℕ
 printed_trailer_fields = 32 ∷ 32 ∷ 16 ∷ 16 ∷ 32 ∷ []
@@ -99,12 +99,14 @@ thirteen = 0 ∷ 1 ∷ 2 ∷ 3 ∷ 4 ∷ 5 ∷ 6 ∷ 7 ∷ 8 ∷ 9 ∷ 10 ∷ 11
 
 pub fixed_numbers : List (Case Fixed)
 fixed_numbers =
-    is (numbers (limit ∷ fold_limit ∷ sheet_limit ∷ base_length ∷ fee_length ∷ record_length ∷ trailer_length ∷ radius_limit ∷ [])) (numbers printed_limits) ∷
-    is (numbers (no_cell ∷ off_map ∷ not_closed ∷ nothing_left ∷ too_many_folds ∷ no_vertex ∷ bad_length ∷ bad_trailer ∷ bad_distance ∷ bad_number ∷ no_room ∷ no_record ∷ not_finite ∷ no_point ∷ half_point ∷ too_wide ∷ two_records ∷ no_origin ∷ no_other_cell ∷ []))
+    is (numbers (limit ∷ old_limit ∷ fold_limit ∷ sheet_limit ∷ base_length ∷ fee_length ∷ county_length ∷ record_length ∷ trailer_length ∷ radius_limit ∷ []))
+    (numbers printed_limits) ∷
+    is (numbers (no_cell ∷ off_map ∷ not_closed ∷ nothing_left ∷ too_many_folds ∷ no_vertex ∷ bad_length ∷ bad_trailer ∷ bad_distance ∷ bad_number ∷ no_room ∷ no_record ∷ not_finite ∷ no_point ∷ half_point ∷ too_wide ∷ two_records ∷ no_origin ∷ no_other_cell ∷ off_old_map ∷ []))
     (numbers printed_refusals) ∷
     is (numbers (bytes 4 letters)) (numbers printed_letters) ∷
-    is (numbers (map (λ w. 8 * w) base_layout)) (numbers (printed_record_fields 0)) ∷
-    is (numbers (map (λ w. 8 * w) fee_layout)) (numbers (printed_record_fields 16)) ∷
+    is (numbers (map (λ w. 8 * w) base_layout)) (numbers (printed_record_fields 16 0)) ∷
+    is (numbers (map (λ w. 8 * w) fee_layout)) (numbers (printed_record_fields 16 16)) ∷
+    is (numbers (map (λ w. 8 * w) county_layout)) (numbers (printed_record_fields 32 16)) ∷
     is (numbers (map (λ w. 8 * w) trailer_layout)) (numbers printed_trailer_fields) ∷
     is (vectors steps) (vectors printed_steps) ∷
     is (table pieces) (table printed_pieces) ∷

@@ -1,5 +1,5 @@
 -- The starred squared-paper cases of document 01, in its order and numbers, by one computed test over the list; those of opposed rows have
--- the answers of document 02's U4. Assumes nothing.
+-- the answers of document 02's U4, and the one at the map's edge the limit of its U10. Assumes nothing.
 use Rattle.std.specs.Prelude.{◌≡◌, ℕ, Bool, true, false, List, [], ◌∷◌, map, pos, negsuc, refl}
 use Rattle.octagon.specs.Octagon.{Octagon}
 use Rattle.octagon.specs.Outcome.{Outcome, accepted, refused, then}
@@ -60,8 +60,8 @@ starred =
     is (marked_of (spread (traced K4) K2)) (marked_of (marked true (traced K13))) ∷
     is (cells_of (then (unmarked (spread (traced K2) K4)) cell_count)) (cells_of (accepted 5)) ∷
     is (marked_of (open_by (traced K13) K4)) (marked_of (marked true (traced K13))) ∷
-    -- Cell (-16000,0) trimmed by cell (1,0): 2.
-    is (octagon_of (trim (traced (cell (negsuc 15999) (pos 0))) (cell (pos 1) (pos 0)))) (octagon_of (refused 2)) ∷
+    -- Cell (-2000000,0), at the edge of U10's map, trimmed by cell (1,0): 2.
+    is (octagon_of (trim (traced (cell (negsuc 1999999) (pos 0))) (cell (pos 1) (pos 0)))) (octagon_of (refused 2)) ∷
     -- Sides 0 2 0 2 0 2 0 2 split as one each of K2, K4, K13. Sides 3 0 1 1 0 2 0 0 split as one K5 and one K9.
     is (split_of (then (traced (outlined_by 0 2 0 2 0 2 0 2)) decomposition)) (split_of (accepted (split_by 0 1 0 1 0 0 0 0 0 0 0 0 1))) ∷
     is (split_of (then (traced (outlined_by 3 0 1 1 0 2 0 0)) decomposition)) (split_of (accepted (split_by 0 0 0 0 1 0 0 0 1 0 0 0 0))) ∷

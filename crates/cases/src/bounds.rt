@@ -4,13 +4,13 @@ use octagon::Octagon;
 use std::{array, fmt};
 
 // The map's limit.
-const LIMIT: i32 = 16000;
+const LIMIT: i32 = 2_000_000;
 
-// A cell on the map or near it, or the way from one cell to another.
+// A cell on the map or near it, or the way from one cell to another: so near that no sum of coordinates wraps.
 #[derive(Clone, Copy, PartialEq, Eq)]
 pub struct Cell {
-    pub x: i16,
-    pub y: i16,
+    pub x: i32,
+    pub y: i32,
 }
 
 #[derive(Clone, Copy, PartialEq, Eq)]
@@ -19,9 +19,18 @@ pub struct Bounds(pub [i32; 8]);
 impl Bounds {
     // The left sides of the inequalities at a cell: the bounds that it reaches.
     pub fn reached_by(cell: Cell) -> Self {
-        let x = i32::from(cell.x);
-        let y = i32::from(cell.y);
-        Self([-y, x - y, x, x + y, y, y - x, -x, -(x + y)])
+        let Cell { x, y } = cell;
+        let (south, west) = (y.wrapping_neg(), x.wrapping_neg());
+        Self([
+            south,
+            x.wrapping_add(south),
+            x,
+            x.wrapping_add(y),
+            y,
+            y.wrapping_add(west),
+            west,
+            west.wrapping_add(south),
+        ])
     }
 
     // The greater of each two.

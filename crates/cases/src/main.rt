@@ -1,13 +1,15 @@
 // The squared-paper cases that are run, the README's example, and `normalise` at extreme bounds, each beside a set of cells that is
-// enumerated here; splits that were worked out by hand; and the library's constants. The starred cases are proved in specs/Starred.antt.
+// enumerated here; folds across the map; splits that were worked out by hand; and the library's constants. The starred cases are proved in
+// specs/Starred.antt.
 //
 // What is expected comes from the eight inequalities, the steps and the set definitions alone. A line has the answer, with its mark where
-// the call has one, then what the cells say, then whether the two agree. An octagon too large to enumerate has the answer alone; a split
-// has the answer, and whether it is what was worked out (splits.rt). tests/cases.py works the lines out on its own.
+// the call has one, then what the cells say, then whether the two agree. Octagons too large to enumerate and folds across the map have the
+// answer alone; a split has the answer, and whether it is what was worked out (splits.rt). tests/cases.py works the lines out on its own.
 #![tactic(auto)]
 
 mod beside;
 mod bounds;
+mod far_folds;
 mod numbers;
 mod operands;
 mod sets;
@@ -27,7 +29,7 @@ use told::{Answered, Cells, Counted, verdict};
 
 // The price list's figure: the cells of a plot that a frame can open, or where the opening is filled those of the smallest octagon that
 // holds them; or a refusal.
-fn figure(surveyed: Outline, frame: Octagon) -> Result<u32, Refusal> {
+fn figure(surveyed: Outline, frame: Octagon) -> Result<u64, Refusal> {
     let plot = to_octagon(surveyed)?;
     let opened = opening(plot, frame)?;
     count_cells(opened.octagon())
@@ -83,6 +85,7 @@ fn enumerated_extremes(rt: &impl Print) -> io::Result<()> {
 fn all(rt: &impl Print) -> io::Result<()> {
     worked_example(rt)?;
     squared_paper::tell(rt)?;
+    far_folds::tell(rt)?;
     splits::tell(rt)?;
     extremes(rt)?;
     enumerated_extremes(rt)?;

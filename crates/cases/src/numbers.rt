@@ -10,24 +10,26 @@ use outline::Outline;
 use outline::tables::{STEPS, piece_sides};
 use std::io;
 
-// The limits of the map, of folds and of a sheet's length, the lengths of a record without and with a fee row, of one that is written, and
-// of a trailer, and the limit of a radius.
-fn limits() -> [u32; 8]
+// The limits of the map, of the map of older records, of folds and of a sheet's length; the lengths of a record without and with a fee row, of
+// one with 32-bit sides, of one that is written, and of a trailer; and the limit of a radius.
+fn limits() -> [u32; 10]
     ensures { result ≡ numbers.printed_limits }
 {
     [
         Octagon::LIMIT as u32,
+        sheet::OLD_LIMIT,
         morphology::folds::FOLD_LIMIT,
         sheet::LIMIT as u32,
         sheet::BASE_RECORD as u32,
         sheet::FEE_RECORD as u32,
+        sheet::COUNTY_RECORD as u32,
         sheet::RECORD as u32,
         sheet::TRAILER as u32,
         clearance::RADIUS_LIMIT,
     ]
 }
 
-fn refusals() -> [u32; 19]
+fn refusals() -> [u32; 20]
     ensures { result ≡ numbers.printed_refusals }
 {
     [
@@ -50,6 +52,7 @@ fn refusals() -> [u32; 19]
         Refusal::TwoRecords,
         Refusal::NoOrigin,
         Refusal::NoOtherCell,
+        Refusal::OffOldMap,
     ]
     .map(Refusal::number)
 }

@@ -1,8 +1,10 @@
 // The octagons of the cases by their bounds.
 use crate::bounds::{Bounds, Cell};
 
-// The cells (16000,0), (0,0) and (1,0).
-pub const EDGE: Bounds = Bounds([0, 16000, 16000, 16000, 0, -16000, -16000, -16000]);
+// The cells (2000000,0), (0,0) and (1,0).
+pub const EDGE: Bounds = Bounds([
+    0, 2000000, 2000000, 2000000, 0, -2000000, -2000000, -2000000,
+]);
 
 pub const ORIGIN: Bounds = Bounds([0; 8]);
 
@@ -33,20 +35,23 @@ pub const EXTREMES: [Bounds; 7] = [
     Bounds([MIN, MIN, MAX, MAX, MAX, MAX, MAX, MAX]),
     Bounds([MAX, MAX, MAX, MAX, MIN, MIN, MIN, MIN]),
     Bounds([MAX, MAX, MIN, MAX, MAX, MAX, MAX, MAX]),
-    Bounds([16000, MAX, 16000, MAX, 16000, MAX, 16000, MAX]),
+    Bounds([2000000, MAX, 2000000, MAX, 2000000, MAX, 2000000, MAX]),
 ];
 
 // Extreme bounds, each with the lowest left cell of the window in which their cells are enumerated, which is at the map's edge for those
 // that leave the map.
 pub const ENUMERATED_EXTREMES: [(Bounds, Cell); 7] = [
-    (Bounds([MAX; 8]), Cell { x: 15998, y: 0 }),
+    (Bounds([MAX; 8]), Cell { x: 1999998, y: 0 }),
     (
-        Bounds([16000, MAX, 16001, MAX, 16000, MAX, 16000, MAX]),
-        Cell { x: 15998, y: 0 },
+        Bounds([2000000, MAX, 2000001, MAX, 2000000, MAX, 2000000, MAX]),
+        Cell { x: 1999998, y: 0 },
     ),
     (
         Bounds([MAX, -3, MAX, MAX, MAX, 3, 0, 7]),
-        Cell { x: 15996, y: 16000 },
+        Cell {
+            x: 1999996,
+            y: 2000000,
+        },
     ),
     (
         Bounds([MAX, 0, MAX, 1, MAX, 0, MAX, -1]),

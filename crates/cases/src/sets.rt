@@ -4,7 +4,7 @@ ghost use Rattle.std.specs.Prelude.{◌<◌};
 use crate::bounds::{Bounds, Cell};
 
 // A set: bit k is the cell k % 8 east and k / 8 north of the window's lowest left cell. The sets here are so small that sums of their
-// cells stay in a window, and so near the map that no coordinate wraps.
+// cells stay in a window.
 #[derive(Clone, Copy, PartialEq, Eq)]
 pub struct Set {
     bits: u64,
@@ -27,7 +27,7 @@ fn difference(a: Cell, b: Cell) -> Cell {
 
 impl Set {
     // The cells within bounds of the window that has its lowest left cell at (x, y).
-    pub fn within(bounds: Bounds, x: i16, y: i16) -> Self {
+    pub fn within(bounds: Bounds, x: i32, y: i32) -> Self {
         let corner = Cell { x, y };
         let mut set = Self { bits: 0, corner };
         for k in 0..64u8 {
@@ -39,7 +39,7 @@ impl Set {
     }
 
     fn cell(self, k: u8) -> Cell {
-        let (x, y) = (i16::from(k % 8), i16::from(k / 8));
+        let (x, y) = (i32::from(k % 8), i32::from(k / 8));
         sum(self.corner, Cell { x, y })
     }
 
@@ -74,8 +74,8 @@ impl Set {
     }
 
     // The number of cells.
-    pub fn count(self) -> u32 {
-        self.bits.count_ones()
+    pub fn count(self) -> u64 {
+        u64::from(self.bits.count_ones())
     }
 
     // The bounds that the set reaches, unless it has no cell.

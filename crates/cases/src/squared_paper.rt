@@ -10,16 +10,16 @@ use octagon::{Octagon, Refusal};
 use std::io;
 
 fn edge_of_the_map(rt: &impl Print) -> io::Result<()> {
-    let edge = Set::within(EDGE, 15998, 0);
+    let edge = Set::within(EDGE, 1999998, 0);
     tell_spread(
         rt,
-        "cell (16000,0) spread by (0,0)",
+        "cell (2000000,0) spread by (0,0)",
         dilate(EDGE.octagon(), ORIGIN.octagon()),
         edge.sums(Set::within(ORIGIN, -2, 0)),
     )?;
     tell_spread(
         rt,
-        "cell (16000,0) spread by (1,0)",
+        "cell (2000000,0) spread by (1,0)",
         dilate(EDGE.octagon(), BESIDE.octagon()),
         edge.sums(Set::within(BESIDE, -2, 0)),
     )
@@ -61,20 +61,20 @@ fn fold_limit(rt: &impl Print) -> io::Result<()> {
     println!(rt; "origin spread once by itself has the same cells: {same}")?;
     tell_spread(
         rt,
-        "origin spread 65535 times by itself",
-        folded(65535),
+        "origin spread 4000001 times by itself",
+        folded(4000001),
         spread,
     )?;
-    let given = folded(65536).map(Marked::from);
+    let given = folded(4000002).map(Marked::from);
     let refused = verdict(given == Err(Refusal::TooManyFolds));
     println!(rt;
-        "origin spread 65536 times by itself:{}: {refused}",
+        "origin spread 4000002 times by itself:{}: {refused}",
         Answered(given)
     )
 }
 
 // Whether a number of metres is exactly a quarter of a number of cells.
-fn is_quarter(metres: f64, cells: i16) -> bool {
+fn is_quarter(metres: f64, cells: i32) -> bool {
     metres * 4.0 == f64::from(cells)
 }
 

@@ -20,7 +20,7 @@ impl<T: Display> Display for Spaced<'_, T> {
 
 // A number of cells, or a refusal.
 #[derive(Clone, Copy, PartialEq, Eq)]
-pub struct Cells(pub Result<u32, Refusal>);
+pub struct Cells(pub Result<u64, Refusal>);
 
 impl Display for Cells {
     fn fmt<W: fmt::Write>(&self, f: &mut fmt::Formatter<W>) -> fmt::Result {

@@ -15,7 +15,7 @@ use Rattle.cell_count.specs.Area.{area, cell_count}
 use Rattle.cell_count.proofs.Counts.{count_same, count_most, count_lost, count_some}
 use Rattle.cell_count.proofs.Inside.{inside_is, inside_most, inside_same}
 use Rattle.cell_count.proofs.Formula.{cells_and_cuts}
-use Rattle.cell_count.proofs.Lengths.{near_fits, lengths, rectangle_most}
+use Rattle.cell_count.proofs.Lengths.{near_fits, lengths, greatest, rectangle_most}
 
 -- ---- the formula
 
@@ -27,10 +27,14 @@ own_area c a e r h = omega (arith, cells_and_cuts r a (accepted_normal c a e) (n
 pub counted : (c a : Octagon) → normalised c ≡ accepted a → (r : ℕ) → limit ≤ r → area a ≡ count r (inside c)
 counted c a e r h = own_area c a e r h ∙ count_same r (inside_same a c (accepted_means c a e).cells)
 
--- it fits an unsigned 32-bit number
-pub area_fits : (c a : Octagon) → normalised c ≡ accepted a → area a < 2 ^ 32
+-- it is at most the map's cells and one column more
+pub area_most : (c a : Octagon) → normalised c ≡ accepted a → area a ≤ greatest
 unfolding area
-area_fits c a e = omega (arith, rectangle_most a (lengths a (normalised_again c a e)))
+area_most c a e = omega (arith, rectangle_most a (lengths a (normalised_again c a e)))
+
+-- so it fits an unsigned 64-bit number
+pub area_fits : (c a : Octagon) → normalised c ≡ accepted a → area a < 2 ^ 64
+area_fits c a e = omega (arith, area_most c a e)
 
 -- it is 1 or more
 pub area_some : (c a : Octagon) → normalised c ≡ accepted a → 1 ≤ area a
@@ -61,7 +65,7 @@ pub count_refused : (c : Octagon) (k : ℕ) → (cell_count c ≡ refused k) ↔
 unfolding cell_count
 count_refused c k = map_refused (normalised c) area k
 
--- accepted: the number of cells within the bounds, in the map's square and in every larger one; 1 or more, and within 32 bits
+-- accepted: the number of cells within the bounds, in the map's square and in every larger one; 1 or more, and within 64 bits
 pub count_means : (c : Octagon) (n : ℕ) → cell_count c ≡ accepted n → Counted c n
 count_means c n e =
     let a = count_accepted c n e in

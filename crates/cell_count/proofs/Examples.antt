@@ -1,5 +1,5 @@
 -- The count of an octagon with eight different sides and bounds: what `count_cells` answers, computed, and the number of cells,
--- by the theorem and by trying each cell of a small square. Assumes nothing.
+-- by the theorem and by trying each cell of a small square; and counts past 32 bits, of the map and of nearly all of it. Assumes nothing.
 use mathlib.Core.Path.{◌≡◌, refl, sym}
 use native.Mathlib.Omega.{arith}
 use lib.IntN.{pos, negsuc}
@@ -28,3 +28,16 @@ uneven_cells = sym ((count_means uneven 138 uneven_answer).cells limit (omega ar
 pub uneven_tried : count 12 (inside uneven) ≡ 138
 unfolding count row sum one at inside
 uneven_tried = refl
+
+-- ---- past 32 bits
+
+-- the map, and an octagon with eight different sides and bounds that lacks few of its cells
+abbrev pub whole_map : Octagon
+whole_map = record { c0 = pos 2000000; c1 = pos 4000000; c2 = pos 2000000; c3 = pos 4000000; c4 = pos 2000000; c5 = pos 4000000; c6 = pos 2000000; c7 = pos 4000000 }
+
+abbrev pub nearly_all : Octagon
+nearly_all = record { c0 = pos 1999999; c1 = pos 3999990; c2 = pos 2000000; c3 = pos 3999970; c4 = pos 1999998; c5 = pos 3999950; c6 = pos 1999997; c7 = pos 3999930 }
+
+pub large_answers : (cell_count whole_map ≡ accepted 16000008000001) × (cell_count nearly_all ≡ accepted 15999983996307)
+unfolding cell_count area rectangle cuts triangle normalised placed is_on_map has_cell normal_form tight_odd tight_even odd_bound even_bound min_ℤ half_ℤ
+large_answers = (refl, refl)

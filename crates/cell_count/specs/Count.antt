@@ -51,8 +51,8 @@ row r p = sum (2 * r + 1) (λ i. one (p (at r i)))
 unfoldable pub count : ℕ → Test → ℕ
 count r p = sum (2 * r + 1) (λ j. row r (λ x. p x (at r j)))
 
--- n is the number of cells within the bounds c, in the map's square and in every larger one; it is 1 or more, and fits 32 bits
+-- n is the number of cells within the bounds c, in the map's square and in every larger one; it is 1 or more, and fits 64 bits
 pub record Counted (c : Octagon) (n : ℕ) : Type 0 where
   pub cells : (r : ℕ) → limit ≤ r → n ≡ count r (inside c)
   pub some : 1 ≤ n
-  pub fits : n < 2 ^ 32
+  pub fits : n < 2 ^ 64

@@ -69,15 +69,15 @@ fn cuts(a: NormalForm) -> u64
 }
 
 // The number of cells of an octagon in normal form, for this crate and `spectrum`: `count_cells` takes any eight bounds.
-pub fn area(a: NormalForm) -> u32
+pub fn area(a: NormalForm) -> u64
     ensures { result ≡ spec.area a.bounds }
 {
-    (rectangle(a) - cuts(a)) as u32
+    rectangle(a) - cuts(a)
 }
 
 // Document 01's cell count: the number of cells within any eight bounds. Refuses as `normalise` does.
 #[tactic(auto, unfolding(crate::specs::Area::cell_count))]
-pub fn count_cells(o: Octagon) -> Result<u32, Refusal>
+pub fn count_cells(o: Octagon) -> Result<u64, Refusal>
     ensures { outcome result ≡ spec.cell_count o }
 {
     Ok(area(NormalForm::of(o)?))

@@ -26,32 +26,32 @@ around_trees = refl
 -- 17 before the centre's 2, at both ends of 32 bits too; the centre's 2; and the result's 2
 pub refused_in_order : map (λ t. cleared t)
     (record { x = pos 7; y = negsuc 2; radius = 256 }
-    ∷ record { x = pos 16001; y = negsuc 2; radius = 256 }
+    ∷ record { x = pos 2000001; y = negsuc 2; radius = 256 }
     ∷ record { x = negsuc 2147483647; y = pos 2147483647; radius = 4294967295 }
     ∷ record { x = negsuc 2147483647; y = pos 7; radius = 0 }
     ∷ record { x = negsuc 2; y = pos 2147483647; radius = 255 }
-    ∷ record { x = pos 15996; y = negsuc 2; radius = 5 } ∷ [])
+    ∷ record { x = pos 1999996; y = negsuc 2; radius = 5 } ∷ [])
     ≡ (refused 17 ∷ refused 17 ∷ refused 17 ∷ refused 2 ∷ refused 2 ∷ refused 2 ∷ [])
 unfolding cleared octagon_about slant_reach placed is_on_map
 refused_in_order = refl
 
 -- a tree that touches the map's edge on each side, and one step past it: north, east, south, west
 pub at_map_edges : map (λ t. cleared t)
-    (record { x = pos 9; y = pos 15995; radius = 5 }
-    ∷ record { x = pos 9; y = pos 15996; radius = 5 }
-    ∷ record { x = pos 15995; y = negsuc 39; radius = 5 }
-    ∷ record { x = pos 15996; y = negsuc 39; radius = 5 }
-    ∷ record { x = negsuc 8; y = negsuc 15994; radius = 5 }
-    ∷ record { x = negsuc 8; y = negsuc 15995; radius = 5 }
-    ∷ record { x = negsuc 15994; y = pos 40; radius = 5 }
-    ∷ record { x = negsuc 15995; y = pos 40; radius = 5 } ∷ [])
-    ≡ (accepted (record { c0 = negsuc 15989; c1 = negsuc 15978; c2 = pos 14; c3 = pos 16011; c4 = pos 16000; c5 = pos 15993; c6 = negsuc 3; c7 = negsuc 15996 })
+    (record { x = pos 9; y = pos 1999995; radius = 5 }
+    ∷ record { x = pos 9; y = pos 1999996; radius = 5 }
+    ∷ record { x = pos 1999995; y = negsuc 39; radius = 5 }
+    ∷ record { x = pos 1999996; y = negsuc 39; radius = 5 }
+    ∷ record { x = negsuc 8; y = negsuc 1999994; radius = 5 }
+    ∷ record { x = negsuc 8; y = negsuc 1999995; radius = 5 }
+    ∷ record { x = negsuc 1999994; y = pos 40; radius = 5 }
+    ∷ record { x = negsuc 1999995; y = pos 40; radius = 5 } ∷ [])
+    ≡ (accepted (record { c0 = negsuc 1999989; c1 = negsuc 1999978; c2 = pos 14; c3 = pos 2000011; c4 = pos 2000000; c5 = pos 1999993; c6 = negsuc 3; c7 = negsuc 1999996 })
     ∷ refused 2
-    ∷ accepted (record { c0 = pos 45; c1 = pos 16042; c2 = pos 16000; c3 = pos 15962; c4 = negsuc 34; c5 = negsuc 16027; c6 = negsuc 15989; c7 = negsuc 15947 })
+    ∷ accepted (record { c0 = pos 45; c1 = pos 2000042; c2 = pos 2000000; c3 = pos 1999962; c4 = negsuc 34; c5 = negsuc 2000027; c6 = negsuc 1999989; c7 = negsuc 1999947 })
     ∷ refused 2
-    ∷ accepted (record { c0 = pos 16000; c1 = pos 15993; c2 = negsuc 3; c3 = negsuc 15996; c4 = negsuc 15989; c5 = negsuc 15978; c6 = pos 14; c7 = pos 16011 })
+    ∷ accepted (record { c0 = pos 2000000; c1 = pos 1999993; c2 = negsuc 3; c3 = negsuc 1999996; c4 = negsuc 1999989; c5 = negsuc 1999978; c6 = pos 14; c7 = pos 2000011 })
     ∷ refused 2
-    ∷ accepted (record { c0 = negsuc 34; c1 = negsuc 16027; c2 = negsuc 15989; c3 = negsuc 15947; c4 = pos 45; c5 = pos 16042; c6 = pos 16000; c7 = pos 15962 })
+    ∷ accepted (record { c0 = negsuc 34; c1 = negsuc 2000027; c2 = negsuc 1999989; c3 = negsuc 1999947; c4 = pos 45; c5 = pos 2000042; c6 = pos 2000000; c7 = pos 1999962 })
     ∷ refused 2 ∷ [])
 unfolding cleared octagon_about slant_reach placed is_on_map
 at_map_edges = refl

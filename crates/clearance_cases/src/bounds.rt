@@ -6,7 +6,7 @@ use octagon::Octagon;
 use std::{array, fmt};
 
 // The map's limit.
-const LIMIT: i64 = 16000;
+const LIMIT: i64 = 2_000_000;
 
 // The coordinate that is so far from a tree's.
 fn coordinate(middle: i32, away: i16) -> i64

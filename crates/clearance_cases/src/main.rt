@@ -15,27 +15,27 @@ use clearance::Tree;
 use std::io;
 
 // Trees at the map's edge: how far from its middle each stands, and its radius.
-const EDGES: [(u16, u32); 13] = [
-    (16000, 0),
-    (16001, 0),
-    (15999, 1),
-    (16000, 1),
-    (15997, 3),
-    (15998, 3),
-    (15995, 5),
-    (15996, 5),
-    (15746, 254),
-    (15747, 254),
-    (15745, 255),
-    (15746, 255),
-    (16000, 255),
+const EDGES: [(i32, u32); 13] = [
+    (2000000, 0),
+    (2000001, 0),
+    (1999999, 1),
+    (2000000, 1),
+    (1999997, 3),
+    (1999998, 3),
+    (1999995, 5),
+    (1999996, 5),
+    (1999746, 254),
+    (1999747, 254),
+    (1999745, 255),
+    (1999746, 255),
+    (2000000, 255),
 ];
 
 // Centres on the map, one cell off it, and at both ends of 32 bits.
 const CENTRES: [(i32, i32); 11] = [
     (12, -9),
-    (16001, 3),
-    (-5, -16001),
+    (2000001, 3),
+    (-5, -2000001),
     (i32::MAX, 7),
     (i32::MIN, -6),
     (8, i32::MAX),
@@ -50,25 +50,25 @@ const CENTRES: [(i32, i32); 11] = [
 // bits.
 const RADII: [u32; 5] = [0, 255, 256, 65791, u32::MAX];
 
-// A coordinate from -15500 to 15500.
+// A coordinate from -1999500 to 1999500.
 fn scattered(n: u32) -> i32 {
-    (n % 31001) as i32 - 15500
+    (n % 3999001) as i32 - 1999500
 }
 
 // Each radius, about a centre of its own.
 fn radii(rt: &impl Print) -> io::Result<()> {
     for radius in 0..256 {
-        let x = scattered(radius * 4999);
-        let y = scattered(radius * 7919 + 3001);
+        let x = scattered(radius * 624917);
+        let y = scattered(radius * 989921 + 375121);
         tell(rt, Tree { x, y, radius })?;
     }
     Ok(())
 }
 
 // Trees so far east, north, west and south of the map's middle, and in a corner of the map.
-fn sides(rt: &impl Print, far: u16, radius: u32) -> io::Result<()> {
-    let far = i32::from(far);
-    for (x, y) in [(far, 41), (-77, far), (-far, -13), (29, -far), (far, -far)] {
+fn sides(rt: &impl Print, far: i32, radius: u32) -> io::Result<()> {
+    let back = far.wrapping_neg();
+    for (x, y) in [(far, 41), (-77, far), (back, -13), (29, back), (far, back)] {
         tell(rt, Tree { x, y, radius })?;
     }
     Ok(())

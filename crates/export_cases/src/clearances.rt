@@ -28,23 +28,23 @@ const ACCEPTED: [(i32, i32, u32); 9] = [
     (-6, -11, 3),
     (23, 14, 5),
     (-1234, 5678, 255),
-    (15745, -31, 255),
-    (17, 15746, 254),
-    (-15995, 42, 5),
-    (-8, -15997, 3),
+    (1999745, -31, 255),
+    (17, 1999746, 254),
+    (-1999995, 42, 5),
+    (-8, -1999997, 3),
 ];
 
 // A radius above the limit: about centres on the map, off it, and at the ends of 32 bits.
-const TOO_WIDE: [(i32, i32, u32); 3] = [(2, 7, 256), (-40000, 6, 511), (MIN, MAX, u32::MAX)];
+const TOO_WIDE: [(i32, i32, u32); 3] = [(2, 7, 256), (-4000000, 6, 511), (MIN, MAX, u32::MAX)];
 
 // A disc one cell past each edge of the map; a centre one past it, and at the ends of 32 bits.
 const OFF_MAP: [(i32, i32, u32); 8] = [
-    (15746, -31, 255),
-    (17, 15747, 254),
-    (-15996, 42, 5),
-    (-8, -15998, 3),
-    (16001, 10, 0),
-    (-12, -16001, 0),
+    (1999746, -31, 255),
+    (17, 1999747, 254),
+    (-1999996, 42, 5),
+    (-8, -1999998, 3),
+    (2000001, 10, 0),
+    (-12, -2000001, 0),
     (MAX, 4, 255),
     (-3, MIN, 255),
 ];
@@ -56,7 +56,7 @@ fn misfits(rt: &impl Print) -> io::Result<()> {
     clearance(rt, 9, -4, 1, &mut seven)?;
     clearance(rt, 9, -4, 1, &mut nine)?;
     clearance(rt, 2, 7, 256, &mut seven)?;
-    clearance(rt, 16001, 10, 0, &mut nine)
+    clearance(rt, 2000001, 10, 0, &mut nine)
 }
 
 pub fn clearances(rt: &impl Print) -> io::Result<()> {

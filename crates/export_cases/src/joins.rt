@@ -2,7 +2,7 @@
 ghost use Rattle.std.specs.Prelude.{◌<◌};
 
 use crate::print::{Hex, tell};
-use crate::samples::{BUFFER, HALF, NARROW, Sheet};
+use crate::samples::{BUFFER, COUNTY, HALF, NARROW, Sheet};
 use koxirmeta_c::sheets::kx_sheet_join;
 use std::io;
 
@@ -43,19 +43,25 @@ fn half<'a>() -> Sheet<'a> {
     Sheet::new(&HALF, 73)
 }
 
-// The two halves in either order, and the one of 24 with itself: in a longer buffer, and with just the room.
+fn county<'a>() -> Sheet<'a> {
+    Sheet::new(&COUNTY, 113)
+}
+
+// The two halves in either order, the one of 24 with itself, and with one of 46: in a longer buffer, and with just the room.
 fn accepted(rt: &impl Print) -> io::Result<()> {
-    join(rt, narrow(), half(), 103)?;
-    join(rt, narrow(), half(), 97)?;
-    join(rt, half(), narrow(), 103)?;
-    join(rt, half(), narrow(), 99)?;
-    join(rt, narrow(), narrow(), 75)
+    join(rt, narrow(), half(), 163)?;
+    join(rt, narrow(), half(), 157)?;
+    join(rt, half(), narrow(), 163)?;
+    join(rt, half(), narrow(), 159)?;
+    join(rt, narrow(), narrow(), 111)?;
+    join(rt, narrow(), county(), 157)?;
+    join(rt, county(), narrow(), 163)
 }
 
 // One byte too few, and none.
 fn no_room(rt: &impl Print) -> io::Result<()> {
-    join(rt, narrow(), half(), 96)?;
-    join(rt, half(), narrow(), 98)?;
+    join(rt, narrow(), half(), 156)?;
+    join(rt, half(), narrow(), 158)?;
     join(rt, narrow(), half(), 0)
 }
 
@@ -72,25 +78,25 @@ fn changed(at: usize, byte: u8) -> [u8; 77]
 fn two_records(rt: &impl Print) -> io::Result<()> {
     let other = changed(55, 1);
     let half = Sheet::new(&other, 73);
-    join(rt, narrow(), half, 103)?;
-    join(rt, half, narrow(), 103)?;
+    join(rt, narrow(), half, 163)?;
+    join(rt, half, narrow(), 163)?;
     join(rt, narrow(), half, 0)
 }
 
 // What the check refuses, of the first sheet before the second, and of either before the two fee rows: lengths, wrong letters, a wrong
-// distance, a number above the next one, an open outline, and one off the map.
+// distance, a number above the next one, an open outline, and one off the old map.
 fn not_sheets(rt: &impl Print) -> io::Result<()> {
     let half = changed(55, 1);
-    join(rt, Sheet::new(&NARROW, 15), Sheet::new(&half, 72), 103)?;
-    join(rt, Sheet::new(&NARROW, 66), Sheet::new(&half, 15), 103)?;
-    join(rt, narrow(), Sheet::new(&half, 78), 103)?;
+    join(rt, Sheet::new(&NARROW, 15), Sheet::new(&half, 72), 163)?;
+    join(rt, Sheet::new(&NARROW, 66), Sheet::new(&half, 15), 163)?;
+    join(rt, narrow(), Sheet::new(&half, 78), 163)?;
     join(rt, narrow(), Sheet::new(&half, 72), 0)?;
     let letters = changed(57, 51);
-    join(rt, Sheet::new(&letters, 73), Sheet::new(&NARROW, 15), 103)?;
-    join(rt, narrow(), Sheet::new(&changed(7, 2), 73), 103)?;
-    join(rt, narrow(), Sheet::new(&changed(13, 16), 73), 103)?;
+    join(rt, Sheet::new(&letters, 73), Sheet::new(&NARROW, 15), 163)?;
+    join(rt, narrow(), Sheet::new(&changed(7, 2), 73), 163)?;
+    join(rt, narrow(), Sheet::new(&changed(13, 16), 73), 163)?;
     let off = changed(10, 127);
-    join(rt, Sheet::new(&off, 73), Sheet::new(&NARROW, 66), 103)
+    join(rt, Sheet::new(&off, 73), Sheet::new(&NARROW, 66), 163)
 }
 
 pub fn joins(rt: &impl Print) -> io::Result<()> {

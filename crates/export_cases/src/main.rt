@@ -6,6 +6,7 @@ use samples::SAMPLES;
 use std::io;
 
 mod clearances;
+mod conversions;
 mod joins;
 mod octagons;
 mod outlines;
@@ -29,12 +30,14 @@ fn each_sample(rt: &impl Print) -> io::Result<()> {
 
 fn all(rt: &impl Print) -> io::Result<()> {
     each_sample(rt)?;
+    octagons::wide(rt)?;
     octagons::misfits(rt)?;
     spectra::spectra(rt)?;
     tapes::tapes(rt)?;
     clearances::clearances(rt)?;
     plots::plots(rt)?;
-    joins::joins(rt)
+    joins::joins(rt)?;
+    conversions::conversions(rt)
 }
 
 // Where a line cannot be written, nothing more is.

@@ -114,6 +114,15 @@ pub fn count(rt: &impl Print, plot: &[i32]) -> io::Result<()> {
     tell(rt, "count", answer, format_args!(" {cells}"))
 }
 
+// A plot of more cells than 32 bits count.
+const WIDE: [i32; 8] = [
+    -1654321, -2788885, -1114553, 629780, 1774346, 3018925, 1284588, -419754,
+];
+
+pub fn wide(rt: &impl Print) -> io::Result<()> {
+    count(rt, &WIDE)
+}
+
 // Seven bounds of the plot, seven of the frame, and results of seven numbers.
 pub fn misfits(rt: &impl Print) -> io::Result<()> {
     let plot = &SAMPLES[0].bounds;

@@ -26,8 +26,8 @@ fn insert_three(rt: &impl Print, buffer: &mut [u8]) -> io::Result<()> {
         fee_row: 0,
     };
     sheet_insert(rt, buffer, 19, first)?;
-    sheet_insert(rt, buffer, 45, before)?;
-    sheet_insert(rt, buffer, 71, after)
+    sheet_insert(rt, buffer, 65, before)?;
+    sheet_insert(rt, buffer, 111, after)
 }
 
 // A plot for which there is no room, a number that is there, an open outline, seven sides, and a start of three numbers.
@@ -76,33 +76,33 @@ fn records(rt: &impl Print, buffer: &[u8], len: usize, cut: usize) -> io::Result
 
 // A sheet that is started.
 fn started(rt: &impl Print, buffer: &mut [u8]) -> io::Result<()> {
-    sheet_start(rt, buffer, 88)?;
+    sheet_start(rt, buffer, 148)?;
     sheet_start(rt, buffer, 3)?;
     insert_three(rt, buffer)?;
-    insert_refused(rt, buffer, 97)?;
-    records(rt, buffer, 97, 96)
+    insert_refused(rt, buffer, 157)?;
+    records(rt, buffer, 157, 156)
 }
 
-// A sheet of 24, with room for a record of 24 more but not for all at 26, and with room for these.
+// A sheet of 24, with room for a record of 46 more but not for all at 46, and with room for these. The plot is off the old map.
 fn narrow(rt: &impl Print, buffer: &mut [u8; ROOM]) -> io::Result<()> {
     let plot = Plot {
-        number: 70000,
-        start: &[-8, -11],
-        sides: &[6, 7, 3, 1, 14, 2, 5, 4],
+        number: 31337,
+        start: &[-1234567, 1654321],
+        sides: &[100003, 20011, 70001, 30013, 100013, 40009, 29995, 50021],
         fee_row: 256,
     };
     records(rt, buffer, 67, 66)?;
-    insert_refused(rt, &mut buffer[..91], 67)?;
+    insert_refused(rt, &mut buffer[..113], 67)?;
     sheet_insert(rt, buffer, 67, plot)?;
-    records(rt, buffer, 97, 96)
+    records(rt, buffer, 157, 156)
 }
 
 // A record whose number is 0: it is refused where the records are checked, and read.
 fn wrong_number(rt: &impl Print, buffer: &mut [u8; ROOM]) -> io::Result<()> {
     buffer[3] = 0;
     buffer[4] = 0;
-    record(rt, Sheet::new(buffer, 97), 0)?;
-    record(rt, Sheet::new(buffer, 97), 3)
+    record(rt, Sheet::new(buffer, 157), 0)?;
+    record(rt, Sheet::new(buffer, 157), 3)
 }
 
 pub fn plots(rt: &impl Print) -> io::Result<()> {
@@ -110,9 +110,9 @@ pub fn plots(rt: &impl Print) -> io::Result<()> {
     let mut second = NARROW;
     started(rt, &mut first)?;
     narrow(rt, &mut second)?;
-    list(rt, Sheet::new(&first, 97))?;
+    list(rt, Sheet::new(&first, 157))?;
     list(rt, Sheet::new(&NARROW, 67))?;
-    list(rt, Sheet::new(&second, 97))?;
+    list(rt, Sheet::new(&second, 157))?;
     wrong_number(rt, &mut first)?;
-    list(rt, Sheet::new(&first, 97))
+    list(rt, Sheet::new(&first, 157))
 }

@@ -52,5 +52,5 @@ pub fn tell<D: fmt::Display + Drop>(
     answer: u32,
     memory: D,
 ) -> io::Result<()> {
-    print!(rt; "\n{name:<12} {answer}:{memory}")
+    print!(rt; "\n{name:<13} {answer}:{memory}")
 }

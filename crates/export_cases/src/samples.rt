@@ -24,21 +24,25 @@ pub const SAMPLES: [Sample; 15] = [
     Sample {
         bounds: [5, 4, 0, 10, 40, 27, 11, 20],
         frame: 1,
-        folds: 65536,
+        folds: 4000002,
     },
     Sample {
         bounds: [6, 2, 7, 5, 8, -2, 9, -5],
         frame: 4,
         folds: 1,
     },
-    // the cells (16001, -3), off the map, (15999, -7) and (-2, 5)
+    // the cells (2000001, -3), off the map, (1999999, -7) and (-2, 5)
     Sample {
-        bounds: [3, 16004, 16001, 15998, -3, -16004, -16001, -15998],
+        bounds: [
+            3, 2000004, 2000001, 1999998, -3, -2000004, -2000001, -1999998,
+        ],
         frame: 3,
         folds: 1,
     },
     Sample {
-        bounds: [7, 16006, 15999, 15992, -7, -16006, -15999, -15992],
+        bounds: [
+            7, 2000006, 1999999, 1999992, -7, -2000006, -1999999, -1999992,
+        ],
         frame: 6,
         folds: 3,
     },
@@ -85,9 +89,11 @@ pub const SAMPLES: [Sample; 15] = [
         frame: 8,
         folds: 3,
     },
-    // the cells (15997, -4) and (15998, -3): spread by that row they reach the map's edge
+    // the cells (1999997, -4) and (1999998, -3): spread by that row they reach the map's edge
     Sample {
-        bounds: [4, 16001, 15998, 15995, -3, -16001, -15997, -15993],
+        bounds: [
+            4, 2000001, 1999998, 1999995, -3, -2000001, -1999997, -1999993,
+        ],
         frame: 8,
         folds: 2,
     },
@@ -107,12 +113,14 @@ impl<'a> Sheet<'a> {
 }
 
 // How many bytes the buffers of sheets have.
-pub const ROOM: usize = 103;
+pub const ROOM: usize = 163;
 
 // A buffer whose bytes all differ.
 pub const BUFFER: [u8; ROOM] = *b"\
     \x20!\"#$%&'()*+,-./0123456789:;<=>?@ABCDEFGHIJKLMNOPQRSTUVWXYZ[\\]^_`abcdefghijklmnopqrstuvwxyz{|}~\
-    \x80\x81\x82\x83\x84\x85\x86\x87";
+    \x80\x81\x82\x83\x84\x85\x86\x87\x88\x89\x8a\x8b\x8c\x8d\x8e\x8f\x90\x91\x92\x93\x94\x95\x96\x97\x98\x99\x9a\x9b\x9c\x9d\x9e\x9f\
+    \xa0\xa1\xa2\xa3\xa4\xa5\xa6\xa7\xa8\xa9\xaa\xab\xac\xad\xae\xaf\xb0\xb1\xb2\xb3\xb4\xb5\xb6\xb7\xb8\xb9\xba\xbb\xbc\xbd\xbe\xbf\
+    \xc0\xc1\xc2\xc3";
 
 // The same, with a sheet of 24 in its first 67 bytes: three bytes of heading, the plots 513 and 70001, and the trailer.
 pub const NARROW: [u8; ROOM] = *b"\
@@ -120,7 +128,10 @@ pub const NARROW: [u8; ROOM] = *b"\
     \x01\x02\0\0\x18\xfc\xd0\x07\x2f\x01\x01\0\xca\x02\x02\0\x31\x01\x04\0\xc2\x02\x07\0\
     \x71\x11\x01\0\xfc\xff\xfb\xff\x03\0\x01\0\x0e\0\x02\0\x05\0\x04\0\x06\0\x07\0\
     \x30\0\0\0\x02\0\0\0\x18\0\0\0GRND\
-    cdefghijklmnopqrstuvwxyz{|}~\x80\x81\x82\x83\x84\x85\x86\x87";
+    cdefghijklmnopqrstuvwxyz{|}~\
+    \x80\x81\x82\x83\x84\x85\x86\x87\x88\x89\x8a\x8b\x8c\x8d\x8e\x8f\x90\x91\x92\x93\x94\x95\x96\x97\x98\x99\x9a\x9b\x9c\x9d\x9e\x9f\
+    \xa0\xa1\xa2\xa3\xa4\xa5\xa6\xa7\xa8\xa9\xaa\xab\xac\xad\xae\xaf\xb0\xb1\xb2\xb3\xb4\xb5\xb6\xb7\xb8\xb9\xba\xbb\xbc\xbd\xbe\xbf\
+    \xc0\xc1\xc2\xc3";
 
 // A sheet of 26 in the first 73 bytes: five bytes of heading, the plots 770 and 70001, and the trailer. Its plot 70001 is the one above, with
 // the fee row 0.
@@ -130,3 +141,14 @@ pub const HALF: [u8; 77] = *b"\
     \x71\x11\x01\0\xfc\xff\xfb\xff\x03\0\x01\0\x0e\0\x02\0\x05\0\x04\0\x06\0\x07\0\0\0\
     \x34\0\0\0\x02\0\0\0\x1a\0\0\0GRND\
     wxyz";
+
+// A sheet of 46 in the first 113 bytes: five bytes of heading, the plots 513 and 31337, and the trailer. Its plot 513 is the one above; 31337 is
+// off the old map, and has more cells than 32 bits count.
+pub const COUNTY: [u8; 116] = *b"\
+    shire\
+    \x01\x02\0\0\x18\xfc\xff\xff\xd0\x07\0\0\
+    \x2f\x01\0\0\x01\0\0\0\xca\x02\0\0\x02\0\0\0\x31\x01\0\0\x04\0\0\0\xc2\x02\0\0\x07\0\0\0\0\0\
+    \x69\x7a\0\0\x79\x29\xed\xff\x31\x3e\x19\0\
+    \xa3\x86\x01\0\x2b\x4e\0\0\x71\x11\x01\0\x3d\x75\0\0\xad\x86\x01\0\x49\x9c\0\0\x2b\x75\0\0\x65\xc3\0\0\xed\x0f\
+    \x5c\0\0\0\x02\0\0\0\x2e\0\0\0GRND\
+    tuv";

@@ -17,6 +17,15 @@ const ROW: [i32; 8] = [1, 2, 1, 0, 0, 0, 0, 0];
 
 const ORIGIN: [i32; 8] = [0; 8];
 
+// A block of 3,700,005 columns and 3,300,013 rows, and one of 2,000,004 and 3,000,002, which stands in it once but not twice.
+const BLOCK: [i32; 8] = [
+    1700005, 3500008, 1800003, 3400010, 1600007, 3500008, 1900001, 3600006,
+];
+
+const PART: [i32; 8] = [
+    1100003, 3059997, 1959994, 3859992, 1899998, 1940007, 40009, 1140012,
+];
+
 // The call on the first places of a list of six, so many: all its places, the trims and the ending.
 fn spectrum(rt: &impl Print, plot: &[i32], frame: &[i32], room: usize) -> io::Result<()> {
     let mut list = [301, 302, 303, 304, 305, 306];
@@ -49,6 +58,12 @@ fn about_the_end(rt: &impl Print) -> io::Result<()> {
         spectrum(rt, &SAMPLES[13].bounds, &ROW, room)?;
     }
     Ok(())
+}
+
+// One fold loses nothing, and the second more cells than 32 bits count.
+fn large_entry(rt: &impl Print) -> io::Result<()> {
+    spectrum(rt, &BLOCK, &PART, 1)?;
+    spectrum(rt, &BLOCK, &PART, 6)
 }
 
 // With six places and with none.
@@ -89,6 +104,7 @@ fn misfits(rt: &impl Print) -> io::Result<()> {
 pub fn spectra(rt: &impl Print) -> io::Result<()> {
     every_length(rt)?;
     about_the_end(rt)?;
+    large_entry(rt)?;
     refusals(rt)?;
     misfits(rt)
 }

@@ -37,8 +37,8 @@ fn edges(rt: &impl Print) -> io::Result<()> {
         [0.12499999999999999, -0.12500000000000003],
         [0.37499999999999994, -0.37500000000000006],
         [-0.0, 0.0],
-        [4000.1249999999995, -4000.125],
-        [-4000.125, 4000.1249999999995],
+        [500000.12499999994, -500000.125],
+        [-500000.125, 500000.12499999994],
     ];
     for point in &points {
         enclose(rt, point)?;
@@ -48,7 +48,7 @@ fn edges(rt: &impl Print) -> io::Result<()> {
 
 // No point, and half a point more than none, one and two: before any look at the numbers.
 fn lengths(rt: &impl Print) -> io::Result<()> {
-    let tape = [5000.5, NAN, 1.3, INFINITY, 6000.75];
+    let tape = [500500.5, NAN, 1.3, INFINITY, 600000.75];
     enclose(rt, &[])?;
     enclose(rt, &tape[..1])?;
     enclose(rt, &tape[..3])?;
@@ -61,20 +61,20 @@ fn not_finite(rt: &impl Print) -> io::Result<()> {
     enclose(rt, &[3.1, INFINITY])?;
     enclose(rt, &[-INFINITY, -2.2])?;
     enclose(rt, &[1.4, 2.7, -3.3, 4.6, 5.8, NAN])?;
-    enclose(rt, &[4001.5, NAN])?;
-    enclose(rt, &[INFINITY, -4002.25])?;
-    enclose(rt, &[2.9, -INFINITY, 4003.75, 1.1])
+    enclose(rt, &[500001.5, NAN])?;
+    enclose(rt, &[INFINITY, -500002.25])?;
+    enclose(rt, &[2.9, -INFINITY, 500003.75, 1.1])
 }
 
 // A point off the map: on each side by the least, by far, in the last point, and before one that is not finite.
 fn off_map(rt: &impl Print) -> io::Result<()> {
-    enclose(rt, &[4000.125, 1.7])?;
-    enclose(rt, &[-2.8, 4000.125])?;
-    enclose(rt, &[-4000.1250000000005, 3.9])?;
-    enclose(rt, &[4.2, -4000.1250000000005])?;
+    enclose(rt, &[500000.125, 1.7])?;
+    enclose(rt, &[-2.8, 500000.125])?;
+    enclose(rt, &[-500000.12500000006, 3.9])?;
+    enclose(rt, &[4.2, -500000.12500000006])?;
     enclose(rt, &[1.0e300, -2.0e300])?;
-    enclose(rt, &[5.3, -6.4, 7.6, -8000.0])?;
-    enclose(rt, &[-4005.5, 6.6, NAN, 7.7])
+    enclose(rt, &[5.3, -6.4, 7.6, -900000.0])?;
+    enclose(rt, &[-500005.5, 6.6, NAN, 7.7])
 }
 
 // Results of seven and of nine numbers, for a survey, for no point and for half a point.

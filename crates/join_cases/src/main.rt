@@ -1,12 +1,13 @@
-// Pairs of sheets from standard input, and what `join` answers and leaves. tests/join_pairs.py chooses the pairs, and tests/joins.py works the
-// expected output out on its own.
+// Pairs of sheets from standard input, and what `join` and `convert` answer and leave. tests/join_pairs.py chooses the pairs that are joined
+// and tests/conversions.py the sheets that are converted, and tests/joins.py works the expected output out on its own.
 //
 // The input is words of eight bytes, and bytes: how many pairs there are; then for each pair its name, its two buffers, how many calls are
 // made, and the calls. A buffer is the index of its new bytes, how many these are, how many of all its bytes are lent, and the new bytes;
-// the others are as they were. A call is how many bytes the third buffer has, which of the two are joined, and the lengths of the two
-// sheets. Byte k of the third buffer is k % 251 before the call.
+// the others are as they were. A call is how many bytes the third buffer has, which of the two are joined or that the first is converted,
+// and the lengths of the two sheets. Byte k of the third buffer is k % 251 before the call.
 #![tactic(auto)]
 
+use octagon::Refusal;
 use std::io;
 use std::io::Read;
 
@@ -24,25 +25,33 @@ struct Pair<'a> {
     second: &'a [u8],
 }
 
-impl<'a> Pair<'a> {
-    // What a call joins, by a number of the input: the first sheet and the second, the second and the first, or the first and itself.
-    fn operands(&self, way: u64) -> (&'a [u8], &'a [u8]) {
+impl Pair<'_> {
+    // Makes a call by a number of the input: joins the first sheet and the second, the second and the first, or the first and itself; or
+    // converts the first.
+    fn write(
+        &self,
+        way: u64,
+        len: usize,
+        second_len: usize,
+        third: &mut [u8],
+    ) -> Result<usize, Refusal> {
         match way {
-            0 => (self.first, self.second),
-            1 => (self.second, self.first),
-            _ => (self.first, self.first),
+            0 => sheet::join(self.first, len, self.second, second_len, third),
+            1 => sheet::join(self.second, len, self.first, second_len, third),
+            2 => sheet::join(self.first, len, self.first, second_len, third),
+            _ => sheet::convert(self.first, len, third),
         }
     }
 
     // Makes the next call, and writes its answer and what is then in the third buffer.
     fn call(&self, rt: &impl Print, input: &mut impl Read, third: &mut [u8]) -> io::Result<()> {
         let room = input::length(input).min(third.len());
-        let (left, right) = self.operands(input::number(input));
-        let left_len = input::length(input);
-        let right_len = input::length(input);
+        let way = input::number(input);
+        let len = input::length(input);
+        let second_len = input::length(input);
         let lent = &mut third[..room];
         fill(lent);
-        let answer = sheet::join(left, left_len, right, right_len, lent);
+        let answer = self.write(way, len, second_len, lent);
         words::say_answer(rt, &self.name, answer)?;
         words::say_bytes(rt, lent)
     }

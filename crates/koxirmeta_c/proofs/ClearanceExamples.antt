@@ -11,9 +11,9 @@ use Rattle.koxirmeta_c.specs.Clearances.{clearing}
 use Rattle.koxirmeta_c.proofs.Examples.{plot_bounds, seven_bounds}
 
 pub clearings : (clearing (negsuc 10) (pos 40) 5 plot_bounds
-    ∷ clearing (pos 16001) (pos 40) 5 plot_bounds
-    ∷ clearing (pos 15996) (pos 40) 5 plot_bounds
-    ∷ clearing (pos 16001) (pos 40) 256 plot_bounds
+    ∷ clearing (pos 2000001) (pos 40) 5 plot_bounds
+    ∷ clearing (pos 1999996) (pos 40) 5 plot_bounds
+    ∷ clearing (pos 2000001) (pos 40) 256 plot_bounds
     ∷ clearing (negsuc 10) (pos 40) 5 seven_bounds
     ∷ clearing (negsuc 10) (pos 40) 256 seven_bounds ∷ [])
     ≡ (accepted (record { c0 = negsuc 34; c1 = negsuc 43; c2 = negsuc 5; c3 = pos 36; c4 = pos 45; c5 = pos 58; c6 = pos 16; c7 = negsuc 21 })

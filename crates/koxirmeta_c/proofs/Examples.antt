@@ -27,9 +27,12 @@ use Rattle.koxirmeta_c.specs.Outlines.{is_pair, outline_in, holds_outline, start
 
 -- ---- slices, and what is in them
 
--- a plot of 174 cells, a frame of 10, bounds of which two are slack, and bounds that hold no cell
+-- a plot of 174 cells, one of more than 2 ^ 32, a frame of 10, bounds of which two are slack, and bounds that hold no cell
 abbrev pub plot_bounds : List ℤ
 plot_bounds = pos 5 ∷ pos 4 ∷ pos 0 ∷ pos 10 ∷ pos 12 ∷ pos 19 ∷ pos 11 ∷ pos 9 ∷ []
+
+abbrev pub county_bounds : List ℤ
+county_bounds = negsuc 1654320 ∷ negsuc 2788884 ∷ negsuc 1114552 ∷ pos 629780 ∷ pos 1774346 ∷ pos 3018925 ∷ pos 1284588 ∷ negsuc 419753 ∷ []
 
 abbrev frame_bounds : List ℤ
 frame_bounds = negsuc 3 ∷ negsuc 0 ∷ pos 5 ∷ pos 11 ∷ pos 7 ∷ pos 4 ∷ negsuc 1 ∷ negsuc 6 ∷ []
@@ -145,7 +148,8 @@ pub spreads : (on_two dilation rising_bounds falling_bounds plot_bounds ∷ on_t
 unfolding fitted octagon_in normalised normal_form tight_odd tight_even even_bound odd_bound min_ℤ half_ℤ has_cell placed is_on_map dilation sums are_opposed is_rising is_falling
 spreads = refl
 
-pub counts : (counted plot_bounds ∷ counted crossing_bounds ∷ counted seven_bounds ∷ []) ≡ (accepted 174 ∷ refused 1 ∷ refused 255 ∷ [])
+pub counts : (counted plot_bounds ∷ counted county_bounds ∷ counted crossing_bounds ∷ counted seven_bounds ∷ [])
+    ≡ (accepted 174 ∷ accepted 17706650503 ∷ refused 1 ∷ refused 255 ∷ [])
 unfolding fitted octagon_in normalised normal_form tight_odd tight_even even_bound odd_bound min_ℤ half_ℤ has_cell placed is_on_map cell_count area rectangle cuts triangle
 counts = refl
 

@@ -5,6 +5,7 @@ pub mod Mapped
 pub mod Examples
 pub mod SheetExamples
 pub mod JoinExamples
+pub mod ConvertExamples
 pub mod TapeExamples
 pub mod ClearanceExamples
 pub mod SpectrumExamples

@@ -33,9 +33,9 @@ enclosings = refl
 
 -- a north that is no number, before a point off the map; an infinity beside a coordinate off the map; a second point off the map, before one
 -- that is not finite
-pub first_refused : (enclosing (fin true 11 (negsuc 1) ∷ nan ∷ fin false 32001 (negsuc 2) ∷ fin false 7 (negsuc 0) ∷ []) plot_bounds
-    ∷ enclosing (inf true ∷ fin false 32001 (negsuc 2) ∷ []) plot_bounds
-    ∷ enclosing (fin true 11 (negsuc 1) ∷ fin false 7 (negsuc 0) ∷ fin true 39 (negsuc 2) ∷ fin false 32001 (negsuc 2) ∷ nan ∷ nan ∷ []) plot_bounds ∷ [])
+pub first_refused : (enclosing (fin true 11 (negsuc 1) ∷ nan ∷ fin false 4000001 (negsuc 2) ∷ fin false 7 (negsuc 0) ∷ []) plot_bounds
+    ∷ enclosing (inf true ∷ fin false 4000001 (negsuc 2) ∷ []) plot_bounds
+    ∷ enclosing (fin true 11 (negsuc 1) ∷ fin false 7 (negsuc 0) ∷ fin true 39 (negsuc 2) ∷ fin false 4000001 (negsuc 2) ∷ nan ∷ nan ∷ []) plot_bounds ∷ [])
     ≡ (refused 14 ∷ refused 14 ∷ refused 2 ∷ [])
 unfolding fitted enclosed point_cell snapped hull max_ℤ placed is_on_map
 first_refused = refl

@@ -1,5 +1,5 @@
-// The library for C and Rust: the calls of document 01, with U4's marks, and U1's, U3's, U6's and U9's of document 02, on numbers and lent
-// slices, without any `requires`. The crate koxirmeta_c_c exports each under its name. The crate listing_c has the listing.
+// The library for C and Rust: the calls of document 01, with U4's marks, and U1's, U3's, U6's, U9's and U10's of document 02, on numbers and
+// lent slices, without any `requires`. The crate koxirmeta_c_c exports each under its name. The crate listing_c has the listing.
 //
 // Every call answers a number: 0 where it is accepted, else the number of a refusal of documents 01 and 02, or `WRONG_LENGTH`. Where
 // it is not 0, nothing that was lent is altered. bindings/koxirmeta.h declares the calls for C; specs/Calls.antt says what each leaves.

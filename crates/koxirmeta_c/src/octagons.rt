@@ -1,11 +1,11 @@
 // Octagons in slices of eight bounds.
-ghost use Rattle.std.specs.Prelude.{◌≡◌, ◌&&◌};
+ghost use Rattle.std.specs.Prelude.{◌≡◌, ◌&&◌, length};
 ghost use Rattle.octagon.specs.Answers.{outcome};
 ghost use Rattle.morphology.specs.Marks.{spread_outcome};
 ghost use Rattle.koxirmeta_c.specs.Calls as calls;
 
+use crate::ACCEPTED;
 use crate::giving::give_array;
-use crate::{ACCEPTED, WRONG_LENGTH};
 use morphology::Spread;
 use octagon::{Octagon, Refusal};
 
@@ -48,18 +48,18 @@ const EXACT: u32 = 0;
 
 const FILLED: u32 = 1;
 
-// The same for an answer with a mark, which is handed over too.
-pub fn give_marked(
-    answer: Result<Spread, Refusal>,
-    fits: bool,
-    out: &mut [i32],
-    mark: &mut u32,
-) -> u32
-    ensures { calls.Hands (calls.fitted (fits && calls.is_eight out.old) (spread_outcome answer)) calls.marked_parts (out.old, mark.old) (out.new, mark.new) result }
+// Whether an operand, another and the slice for the result have eight numbers each.
+pub fn are_eights(plot: &[i32], element: &[i32], out: &[i32]) -> bool
+    ensures { result ≡ (calls.is_eight plot.now && calls.is_eight element.now && calls.is_eight out.now) }
 {
-    if !fits | (out.len() != 8) {
-        return WRONG_LENGTH;
-    }
+    (plot.len() == 8) & (element.len() == 8) & (out.len() == 8)
+}
+
+// Hands an octagon and its mark over, where `out` has eight places.
+pub fn give_marked(answer: Result<Spread, Refusal>, out: &mut [i32], mark: &mut u32) -> u32
+    requires { length out.old ≡ 8 }
+    ensures { calls.Hands (spread_outcome answer) calls.marked_parts (out.old, mark.old) (out.new, mark.new) result }
+{
     match answer {
         Ok(spread) => {
             out.copy_from_slice(&bounds_of(spread.octagon()));

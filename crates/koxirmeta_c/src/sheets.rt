@@ -1,4 +1,4 @@
-// Sheets in lent buffers: check, fetch, read, start, insert and join.
+// Sheets in lent buffers: check, fetch, read, start, insert, join and convert.
 // Each call is a function of its own, since C calls it by its name. C lends a buffer and says how long its sheet is,
 // and lends a place for each number that is handed over.
 ghost use Rattle.std.specs.Prelude.{◌≡◌};
@@ -6,6 +6,7 @@ ghost use Rattle.octagon.specs.Answers.{outcome};
 ghost use Rattle.sheet.specs.Checking.{checked};
 ghost use Rattle.sheet.specs.Writing.{started, after_start};
 ghost use Rattle.sheet.specs.Joining as joins;
+ghost use Rattle.sheet.specs.Converting as conversions;
 ghost use Rattle.koxirmeta_c.specs.Calls as calls;
 ghost use Rattle.koxirmeta_c.specs.Outlines.{holds_outline};
 ghost use Rattle.koxirmeta_c.specs.Sheets as sheets;
@@ -127,4 +128,12 @@ pub fn kx_sheet_join(
         true,
         len,
     )
+}
+
+// Copies a sheet into a second buffer, at 26 bytes a record.
+pub fn kx_sheet_convert(first: &[u8], first_len: usize, second: &mut [u8], len: &mut usize) -> u32
+    ensures hands { calls.Hands (conversions.converted first.now first_len second.old) (λ n. n) len.old len.new result × (second.new ≡ conversions.after_convert first.now first_len second.old) }
+    ensures only_read { first.exit.now ≡ first.entry.now }
+{
+    give_value(sheet::convert(first, first_len, second), true, len)
 }

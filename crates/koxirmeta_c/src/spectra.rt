@@ -33,7 +33,7 @@ fn give_ending(answer: Result<Spectrum, Refusal>, trims: &mut usize, ending: &mu
 pub fn kx_spectrum(
     plot: &[i32],
     frame: &[i32],
-    list: &mut [u32],
+    list: &mut [u64],
     trims: &mut usize,
     ending: &mut u32,
 ) -> u32

@@ -14,7 +14,7 @@ pub extern "C" fn kx_normalise(bounds: &[i32], out: &mut [i32]) -> u32
 
 // The number of cells within eight bounds.
 #[unsafe(no_mangle)]
-pub extern "C" fn kx_count(bounds: &[i32], cells: &mut u32) -> u32
+pub extern "C" fn kx_count(bounds: &[i32], cells: &mut u64) -> u32
     ensures { calls.Hands (calls.counted bounds.now) (λ n. n) cells.old cells.new result }
 {
     koxirmeta_c::operations::kx_count(bounds, cells)

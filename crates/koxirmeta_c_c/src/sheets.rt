@@ -1,8 +1,9 @@
-// Sheets in lent buffers: check, fetch, read, start, insert and join.
+// Sheets in lent buffers: check, fetch, read, start, insert, join and convert.
 ghost use Rattle.std.specs.Prelude.{◌≡◌};
 ghost use Rattle.sheet.specs.Checking.{checked};
 ghost use Rattle.sheet.specs.Writing.{started, after_start};
 ghost use Rattle.sheet.specs.Joining as joins;
+ghost use Rattle.sheet.specs.Converting as conversions;
 ghost use Rattle.koxirmeta_c.specs.Calls as calls;
 ghost use Rattle.koxirmeta_c.specs.Sheets as sheets;
 
@@ -84,4 +85,18 @@ pub extern "C" fn kx_sheet_join(
     ensures only_read { (first.exit.now ≡ first.entry.now) × (second.exit.now ≡ second.entry.now) }
 {
     koxirmeta_c::sheets::kx_sheet_join(first, first_len, second, second_len, joined, len)
+}
+
+// Copies a sheet into a second buffer, at 26 bytes a record.
+#[unsafe(no_mangle)]
+pub extern "C" fn kx_sheet_convert(
+    first: &[u8],
+    first_len: usize,
+    second: &mut [u8],
+    len: &mut usize,
+) -> u32
+    ensures hands { calls.Hands (conversions.converted first.now first_len second.old) (λ n. n) len.old len.new result × (second.new ≡ conversions.after_convert first.now first_len second.old) }
+    ensures only_read { first.exit.now ≡ first.entry.now }
+{
+    koxirmeta_c::sheets::kx_sheet_convert(first, first_len, second, len)
 }

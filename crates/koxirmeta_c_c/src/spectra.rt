@@ -8,7 +8,7 @@ ghost use Rattle.koxirmeta_c.specs.Spectra as spectra;
 pub extern "C" fn kx_spectrum(
     plot: &[i32],
     frame: &[i32],
-    list: &mut [u32],
+    list: &mut [u64],
     trims: &mut usize,
     ending: &mut u32,
 ) -> u32

@@ -98,7 +98,7 @@ abbrev two_uprights : Octagon
 two_uprights = bounds (pos 10) (pos 8) (negsuc 1) (pos 10) (pos 12) (pos 14) (pos 2) (pos 12)
 
 abbrev opened_at_edge : Octagon
-opened_at_edge = bounds (pos 61) (pos 16011) (pos 15993) (pos 16009) (pos 59) (negsuc 15890) (negsuc 15949) (negsuc 15888)
+opened_at_edge = bounds (pos 61) (pos 2000011) (pos 1999993) (pos 2000009) (pos 59) (negsuc 1999890) (negsuc 1999949) (negsuc 1999888)
 
 pub smaller_off_map : dilation upright upright ∷ opened at_edge upright ∷ opened at_edge two_uprights ∷ opening_by_both at_edge upright two_uprights ∷ []
     ≡ accepted (exact two_uprights) ∷ refused off_map ∷ refused off_map ∷ accepted (exact opened_at_edge) ∷ []

@@ -86,7 +86,7 @@ Closing p f =
     (Check (LeavesMap (Dilated (In p) (In f))) off_map
     (StaysExact (OpposedRows (In p) (In f)) (Closed (In p) (In f))))
 
--- "6 when n is above 65,535", before all else
+-- "6 when n is above" the fold limit, before all else ("folds go to 4,000,001")
 abbrev pub OnFolds : {R : Type 0} → ℕ → Answers R → Answers R
 OnFolds n C = Check (fold_limit < n) too_many_folds C
 

@@ -8,7 +8,7 @@ use Rattle.morphology.specs.Operations.{with_both, sums, are_opposed, erosion_of
 
 -- the most folds of an n-fold call, and the refusal number of more
 abbrev pub fold_limit : ℕ
-fold_limit = 65535
+fold_limit = 4000001
 
 abbrev pub too_many_folds : ℕ
 too_many_folds = 6

@@ -14,7 +14,7 @@ use octagon::bounds::{narrow, widen};
 use octagon::{NormalForm, Octagon, Refusal};
 
 // The most folds of a call.
-pub const FOLD_LIMIT: u32 = 65_535;
+pub const FOLD_LIMIT: u32 = 4_000_001;
 
 // The plot dilated n times by the element; filled where n is at least 1 and the two are opposed rows.
 #[tactic(auto, unfolding(crate::specs::Folds::dilation_n))]

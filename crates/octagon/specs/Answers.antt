@@ -25,6 +25,7 @@ refusal_number refusal.TooWide = 17
 refusal_number refusal.TwoRecords = 18
 refusal_number refusal.NoOrigin = 19
 refusal_number refusal.NoOtherCell = 20
+refusal_number refusal.OffOldMap = 21
 
 -- an answer: its value, or the number of its refusal
 abbrev pub outcome : {A : Type 0} → Result A Refusal → Outcome A

@@ -54,7 +54,7 @@ Leaves r A = Some (λ x y. A x y × ¬ (Square r x y))
 
 -- the map's limit, in cells from its middle
 abbrev pub limit : ℕ
-limit = 16000
+limit = 2000000
 
 -- the cell (x, y) is on the map
 abbrev pub OnMap : Cells

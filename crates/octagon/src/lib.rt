@@ -32,7 +32,7 @@ pub struct Octagon<T = i32> {
 
 impl Octagon {
     // The map's limit, in cells from its middle.
-    pub const LIMIT: i32 = 16000;
+    pub const LIMIT: i32 = 2_000_000;
 
     // The one cell at (0, 0).
     pub const ORIGIN: Octagon = Octagon {

@@ -27,6 +27,7 @@ pub enum Refusal {
     TwoRecords = 18,
     NoOrigin = 19,
     NoOtherCell = 20,
+    OffOldMap = 21,
 }
 
 impl Refusal {
@@ -46,7 +47,7 @@ impl fmt::Display for Refusal {
             Refusal::OffMap => "a cell lies off the map",
             Refusal::NotClosed => "the outline does not close",
             Refusal::NothingLeft => "no position fits",
-            Refusal::TooManyFolds => "more than 65,535 folds",
+            Refusal::TooManyFolds => "more than 4,000,001 folds",
             Refusal::NoVertex => "the corner number is above 7",
             Refusal::BadLength => "no sheet has that length",
             Refusal::BadTrailer => "the trailer's marks are wrong",
@@ -61,6 +62,7 @@ impl fmt::Display for Refusal {
             Refusal::TwoRecords => "one plot number stands for two records",
             Refusal::NoOrigin => "the frame lacks the cell (0, 0)",
             Refusal::NoOtherCell => "the frame has one cell alone",
+            Refusal::OffOldMap => "a plot leaves the old map",
         })
     }
 }

@@ -1,5 +1,5 @@
--- Small values of the definitions, computed: an outline whose eight sides differ, its octagon, its vertices in metres, and refusals; the
--- same on smaller maps; and outlines compared. Assumes nothing.
+-- Values of the definitions, computed: an outline whose eight sides differ, its octagon, its vertices in metres, and refusals; the same at
+-- the map's edges and on smaller maps; and outlines compared. Assumes nothing.
 use mathlib.Core.Path.{◌≡◌, refl}
 use mathlib.Core.Bool.{true, false}
 use mathlib.Core.List.{List, [], ◌∷◌, ◌++◌, map}
@@ -11,7 +11,7 @@ use Rattle.integers.specs.Minimum.{min_ℤ, half_ℤ}
 use Rattle.octagon.specs.Octagon.{Octagon}
 use Rattle.octagon.specs.Outcome.{accepted, refused}
 use Rattle.octagon.specs.NormalForm.{even_bound, odd_bound, tight_even, tight_odd, normal_form, sides, has_cell, is_on_map, placed, normalised}
-use Rattle.octagon.proofs.Examples.{touching}
+use Rattle.octagon.proofs.Examples.{touching, at_south, at_east, at_north, at_west, at_edges, past_edges}
 use Rattle.outline.specs.declared.Outline.{Outline}
 use Rattle.outline.specs.Closing.{closes}
 use Rattle.outline.specs.Walk.{with_sides, vertex}
@@ -64,6 +64,33 @@ vertex_7 = refl
 vertex_8 : located its_bounds 8 ≡ refused 7
 unfolding located place_of_vertex outlined normalised normal_form tight_odd tight_even even_bound odd_bound min_ℤ half_ℤ has_cell placed is_on_map outline_of sides
 vertex_8 = refl
+
+-- ---- at the map's edges
+
+-- outlines with those sides whose octagons touch the map's south, east, north and west edge, and one step past it
+abbrev its_sides : List ℕ
+its_sides = 3 ∷ 1 ∷ 14 ∷ 2 ∷ 5 ∷ 4 ∷ 6 ∷ 7 ∷ []
+
+pub traced_at_edges :
+    (map traced (with_sides (pos 9) (negsuc 1999999) its_sides ∷ with_sides (pos 1999996) (negsuc 8) its_sides ∷ with_sides (pos 8) (pos 1999983) its_sides ∷ with_sides (negsuc 1999992) (negsuc 7) its_sides ∷ [])
+    ≡ map accepted at_edges)
+    × (map traced (with_sides (pos 9) (negsuc 2000000) its_sides ∷ with_sides (pos 1999997) (negsuc 8) its_sides ∷ with_sides (pos 8) (pos 1999984) its_sides ∷ with_sides (negsuc 1999993) (negsuc 7) its_sides ∷ [])
+    ≡ replicate 4 (refused 2))
+unfolding traced closes placed is_on_map drawn bounds_at vertex
+traced_at_edges = (refl, refl)
+
+-- their vertices in metres: (9, -2000000), (2000000, -8), (10, 2000000) and (-2000000, 5), which lie on the edges, and (1999999, -9) beside
+-- one; one step past the edges there are none
+pub located_at_edges :
+    (located at_south 0 ∷ located at_east 2 ∷ located at_north 4 ∷ located at_west 6 ∷ located at_east 1 ∷ []
+    ≡ accepted (record { east = fin false 9 (negsuc 1); north = fin true 15625 (pos 5) })
+    ∷ accepted (record { east = fin false 15625 (pos 5); north = fin true 1 (pos 1) })
+    ∷ accepted (record { east = fin false 5 (negsuc 0); north = fin false 15625 (pos 5) })
+    ∷ accepted (record { east = fin true 15625 (pos 5); north = fin false 5 (negsuc 1) })
+    ∷ accepted (record { east = fin false 1999999 (negsuc 1); north = fin true 9 (negsuc 1) }) ∷ [])
+    × (map (λ c. located c 2) past_edges ≡ replicate 4 (refused 2))
+unfolding located place_of_vertex over round vertex outlined normalised normal_form tight_odd tight_even even_bound odd_bound min_ℤ half_ℤ has_cell placed is_on_map outline_of sides
+located_at_edges = (refl, refl)
 
 -- ---- on a smaller map
 

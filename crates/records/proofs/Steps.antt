@@ -1,4 +1,5 @@
--- One turn of each loop that reads or writes numbers in bytes, or moves or copies bytes, on plain values. Assumes nothing.
+-- One turn of each loop that reads or writes numbers in bytes, or moves or copies bytes, and numbers of two and of four bytes at once, on
+-- plain values. Assumes nothing.
 use mathlib.Core.Path.{◌≡◌, sym, ap, ◌∙◌}
 use mathlib.Core.Bool.{true}
 use mathlib.Core.List.{List, [], ◌∷◌, ◌++◌}
@@ -6,7 +7,7 @@ use Prim.Native.Nat.{ℕ, zero, suc, ◌+◌, ◌-◌, ◌*◌, ◌/◌, ◌%◌
 use native.Mathlib.Omega.{arith}
 use native.Mathlib.Nat.{pow-suc, pow-le-pow_right}
 use native.Mathlib.Numerals.{add-one}
-use lib.ListN.{length, take, drop, get_or, set, length-drop}
+use lib.ListN.{length, take, drop, get_or, set, length-drop, length-set}
 use lib.Seq.{drop-cons, drop-drop, get_or-take, length-take-le, take-suc, take-suc-set, append_snoc}
 use lib.Dec.{leb}
 use borrow.Author.Tests.{leb-true}
@@ -15,7 +16,7 @@ use Rattle.records.specs.Numbers.{number, bytes, total_width, narrow, packed, un
 use Rattle.records.specs.Parts.{part, splice}
 use Rattle.records.proofs.Numbers.{part_suc, number_suc, length_bytes}
 use Rattle.records.proofs.Fields.{length_packed}
-use Rattle.records.proofs.Splices.{length_splice, take_splice, splice_append, splice_before, splice_one, splice_cons}
+use Rattle.records.proofs.Splices.{splice_nil, length_splice, take_splice, splice_append, splice_before, splice_one, splice_cons}
 
 -- ---- a number, from its highest byte down
 
@@ -52,6 +53,41 @@ put_more s at zero v h k = absurd (omega arith)
 put_more s at (suc n) v h k =
     let e : suc n - 1 ≡ n = omega arith in
     rw e (splice_cons s at (v % 256) (bytes n (v / 256)) (omega (arith, length_bytes n (v / 256))))
+
+-- ---- numbers of two and of four bytes, at once
+
+pub number_two : (s : List ℕ) (at : ℕ) → at + 2 ≤ length s → number (part s at 2) ≡ get_or s at 0 + 256 * get_or s (at + 1) 0
+number_two s at h = omega (arith, number_suc s at 1 (omega arith), number_suc s (at + 1) 0 (omega arith))
+
+pub number_four : (s : List ℕ) (at : ℕ) → at + 4 ≤ length s
+    → number (part s at 4) ≡ get_or s at 0 + 256 * get_or s (at + 1) 0 + 65536 * get_or s (at + 2) 0 + 16777216 * get_or s (at + 3) 0
+number_four s at h =
+    let e : at + 1 + 1 ≡ at + 2 = omega arith in
+    let f : at + 2 + 1 ≡ at + 3 = omega arith in
+    let p = rw e at (number_suc s (at + 1) 2 (omega arith)) in
+    let q = rw f at (number_two s (at + 2) (omega arith)) in
+    omega (arith, number_suc s at 3 (omega arith), p, q)
+
+pub put_two : (s : List ℕ) (at v : ℕ) → at + 2 ≤ length s → set (set s at (v % 256)) (at + 1) (v / 256 % 256) ≡ splice s at (bytes 2 v)
+put_two s at v h =
+    let t = set s at (v % 256) in
+    sym (splice_nil (set t (at + 1) (v / 256 % 256)) (at + 1 + 1))
+    ∙ put_more t (at + 1) 1 (v / 256) (omega (arith, length-set s at (v % 256))) (omega arith)
+    ∙ put_more s at 2 v h (omega arith)
+
+pub put_four : (s : List ℕ) (at v : ℕ) → at + 4 ≤ length s
+    → set (set (set (set s at (v % 256)) (at + 1) (v / 256 % 256)) (at + 2) (v / 65536 % 256)) (at + 3) (v / 16777216 % 256) ≡ splice s at (bytes 4 v)
+put_four s at v h =
+    let t = set (set s at (v % 256)) (at + 1) (v / 256 % 256) in
+    let e : v / 256 / 256 ≡ v / 65536 = omega arith in
+    let f : v / 65536 / 256 ≡ v / 16777216 = omega arith in
+    let g : at + 2 + 1 ≡ at + 3 = omega arith in
+    let l : length t ≡ length s = simp length-set in
+    rw (← f, ← g)
+    (put_two t (at + 2) (v / 65536) (omega arith)
+    ∙ ap (λ (u : List ℕ). splice u (at + 2) (bytes 2 (v / 65536))) (put_two s at v (omega arith))
+    ∙ splice_append s at (bytes 2 v) (bytes 2 (v / 65536)) (omega arith)
+    ∙ rw e)
 
 -- ---- bytes, moved up one by one from the last
 

@@ -9,10 +9,10 @@ use Rattle.octagon.specs.NormalForm.{even_bound, odd_bound, tight_even, tight_od
 use Rattle.cell_count.specs.Area.{triangle, rectangle, cuts, area, cell_count}
 use Rattle.outline.specs.Walk.{vertex}
 use Rattle.outline.specs.Closing.{closes}
-use Rattle.outline.specs.Tracing.{bounds_at, drawn, traced}
+use Rattle.outline.specs.Tracing.{bounds_at, drawn, traced, traced_in}
 use Rattle.records.specs.Numbers.{signed, twos}
 use Rattle.records.specs.Text.{ascii}
-use Rattle.sheet.specs.Layout.{layout_of, encoded, decoded}
+use Rattle.sheet.specs.Layout.{map_limit, layout_of, encoded, decoded}
 use Rattle.sheet.specs.Trailer.{trailer, trailer_at}
 use Rattle.sheet.specs.Sheets.{plots_from, records_bytes}
 use Rattle.sheet.specs.Checking.{stated, framed, judged, surveyed, inspected, parsed}
@@ -50,5 +50,5 @@ texts =
     map (two_rows (ascii "503 29 -38 16 9 23 12 17 11 18 15 1536 2009\n")) fee_rows))
 
 edges_listed : (map (λ s. listing s (length s)) (sheets reaching) ≡ texts) × (map (λ s. listing s (length s)) (sheets leaving) ≡ replicate 16 (ascii "refused 2\n"))
-unfolding texts one_row two_rows base_rows fee_rows records_bytes encoded decoded layout_of trailer trailer_at plots_from parsed inspected framed stated surveyed judged twos signed traced drawn bounds_at vertex closes placed is_on_map cell_count normalised normal_form tight_even tight_odd even_bound odd_bound has_cell min_ℤ half_ℤ area rectangle cuts triangle listing full row_of cell_number heading_line row_line last_line refused_line decimal signed_decimal
+unfolding texts one_row two_rows base_rows fee_rows records_bytes encoded decoded layout_of trailer trailer_at plots_from parsed inspected framed stated surveyed judged map_limit traced_in twos signed traced drawn bounds_at vertex closes placed is_on_map cell_count normalised normal_form tight_even tight_odd even_bound odd_bound has_cell min_ℤ half_ℤ area rectangle cuts triangle listing full row_of cell_number heading_line row_line last_line refused_line decimal signed_decimal
 edges_listed = (refl, refl)

@@ -5,7 +5,7 @@ use Prim.Native.Nat.{ℕ, ◌+◌}
 use lib.IntN.{pos, negsuc}
 use lib.ListN.{length}
 use Rattle.sheet.specs.declared.Record.{Record}
-use Rattle.sheet.specs.Layout.{base_layout, fee_layout, layout_of, encoded, decoded}
+use Rattle.sheet.specs.Layout.{base_layout, fee_layout, layout_of, encoded, decoded, map_limit}
 use Rattle.sheet.specs.Trailer.{trailer, trailer_at}
 use Rattle.sheet.specs.Sheets.{plots_from}
 use Rattle.integers.specs.Minimum.{min_ℤ, half_ℤ}
@@ -13,7 +13,7 @@ use Rattle.octagon.specs.NormalForm.{even_bound, odd_bound, tight_even, tight_od
 use Rattle.cell_count.specs.Area.{triangle, rectangle, cuts, area, cell_count}
 use Rattle.outline.specs.Walk.{vertex}
 use Rattle.outline.specs.Closing.{closes}
-use Rattle.outline.specs.Tracing.{bounds_at, drawn, traced}
+use Rattle.outline.specs.Tracing.{bounds_at, drawn, traced, traced_in}
 use Rattle.records.specs.Numbers.{signed, twos}
 use Rattle.records.specs.Rows.{end_to_end}
 use Rattle.sheet.specs.Checking.{stated, framed, judged, surveyed, inspected, parsed}
@@ -24,14 +24,14 @@ use Rattle.report.specs.Lines.{space, heading_line, row_line, last_line, refused
 use Rattle.report.specs.Listing.{cell_number, row_of, full, listing}
 use Rattle.report.specs.ReadBack.{divided}
 
--- a plot whose numbers all differ, in 174 cells, and the whole map under the number v, in 32001 * 32001
+-- a plot whose numbers all differ, in 174 cells, and the whole old map under the number v, in 32001 * 32001
 uneven : Record
 uneven = plot 70001 (negsuc 3) (negsuc 4) (3 ∷ 1 ∷ 14 ∷ 2 ∷ 5 ∷ 4 ∷ 6 ∷ 7 ∷ []) 65535
 
 whole : ℕ → Record
 whole v = plot v (negsuc 15999) (negsuc 15999) (32000 ∷ 0 ∷ 32000 ∷ 0 ∷ 32000 ∷ 0 ∷ 32000 ∷ 0 ∷ []) (v + 8)
 
--- document 01's sheet after a heading of two bytes, of its records and with fee rows, the uneven plot, the whole map five times, whose
+-- document 01's sheet after a heading of two bytes, of its records and with fee rows, the uneven plot, the whole old map five times, whose
 -- cells together exceed 2 ^ 32, sheets of no plots, no bytes at all, a spoilt letter, and falling numbers
 sheets : List (List ℕ)
 sheets =
@@ -56,7 +56,7 @@ texts =
     ascii "plot i j n0 n1 n2 n3 n4 n5 n6 n7 cells fee\nplots 0 cells 0\n" ∷ ascii "plot i j n0 n1 n2 n3 n4 n5 n6 n7 cells fee\nplots 0 cells 0\n" ∷ ascii "refused 8\n" ∷ ascii "refused 9\n" ∷ ascii "refused 11\n" ∷ []
 
 listed : map (λ s. listing s (length s)) sheets ≡ texts
-unfolding sheets texts uneven whole encoded decoded layout_of trailer trailer_at plots_from parsed inspected framed stated surveyed judged twos signed traced drawn bounds_at vertex closes placed is_on_map cell_count normalised normal_form tight_even tight_odd even_bound odd_bound has_cell min_ℤ half_ℤ area rectangle cuts triangle listing full row_of cell_number heading_line row_line last_line refused_line decimal signed_decimal
+unfolding sheets texts uneven whole encoded decoded layout_of trailer trailer_at plots_from parsed inspected framed stated surveyed judged map_limit traced_in twos signed traced drawn bounds_at vertex closes placed is_on_map cell_count normalised normal_form tight_even tight_odd even_bound odd_bound has_cell min_ℤ half_ℤ area rectangle cuts triangle listing full row_of cell_number heading_line row_line last_line refused_line decimal signed_decimal
 listed = refl
 
 -- numbers at the ends of their ranges

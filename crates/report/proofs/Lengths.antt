@@ -28,7 +28,7 @@ use Rattle.report.specs.Decimal.{decimal, sign, signed_decimal}
 use Rattle.report.specs.Lines.{spaced, line, heading_line, row_line, last_line, refused_line}
 use Rattle.report.specs.Listing.{cell_number, row_of, rows_of, total_cells, full, listing, line_limit, text_limit}
 use Rattle.report.proofs.Decimals.{length_decimal}
-use Rattle.report.proofs.Plots.{cells_most, total_cells_most}
+use Rattle.report.proofs.Plots.{cells_most, total_fits}
 use Rattle.report.proofs.Listings.{listing_refused, listing_accepted}
 
 -- ---- words and lines
@@ -137,7 +137,7 @@ unfolding refused_line
 refused_length k h = omega (arith, line_length (ascii "refused") (omega arith) (numbers k h none))
 
 -- a check gives no number above 11
-fault_small : {before e : ℕ} {rs : List Record} → Faulty before rs e → e ≤ 11
+fault_small : {m before e : ℕ} {rs : List Record} → Faulty m before rs e → e ≤ 11
 fault_small (wrong_number h) = omega arith
 fault_small (open_outline h f) = omega arith
 fault_small (off_outline h k f) = omega arith
@@ -167,7 +167,7 @@ full_length s len c b e =
       arith,
       length-append heading_line (rows_of rs ++ last_line (length rs) (total_cells rs)),
       length-append (rows_of rs) (last_line (length rs) (total_cells rs)),
-      last_length (length rs) (total_cells rs) (omega arith) (omega (arith, total_cells_most rs)),
+      last_length (length rs) (total_cells rs) (omega arith) (total_fits s len c e),
     )
 
 pub listing_fits : (s : List ℕ) (len : ℕ) → AreBytes s → length (listing s len) ≤ text_limit

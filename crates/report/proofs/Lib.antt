@@ -13,3 +13,5 @@ pub mod LinesRead
 pub mod ReadBacks
 pub mod Examples
 pub mod EdgeListings
+pub mod OldListings
+pub mod CountyListings

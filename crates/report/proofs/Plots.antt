@@ -9,13 +9,15 @@ use lib.Seq.{drop-cons}
 use Rattle.octagon.specs.Octagon.{Octagon}
 use Rattle.octagon.specs.Outcome.{Outcome, accepted, refused, then}
 use Rattle.cell_count.specs.Area.{cell_count}
-use Rattle.cell_count.proofs.Counted.{count_accepted, area_fits}
+use Rattle.cell_count.proofs.Counted.{count_accepted, area_most}
+use Rattle.cell_count.proofs.Lengths.{greatest}
 use Rattle.outline.specs.declared.Outline.{Outline}
 use Rattle.outline.specs.Tracing.{traced}
 use Rattle.sheet.specs.declared.Record.{Record}
 use Rattle.sheet.specs.Layout.{record_from}
 use Rattle.sheet.specs.Order.{nth}
 use Rattle.sheet.specs.Checking.{plots, checked, fetched}
+use Rattle.sheet.proofs.Frames.{frame_few}
 use Rattle.sheet.proofs.Checks.{checked_plotted}
 use Rattle.report.specs.declared.page.Page.{Page}
 use Rattle.report.specs.Lines.{row_line}
@@ -45,24 +47,28 @@ plot_fetched s len c k e h = let p = checked_plotted s len c e in p.fetch k ∙ 
 
 -- ---- the cells
 
-count_most : (o : Octagon) → or_nought (cell_count o) < 2 ^ 32
+count_most : (o : Octagon) → or_nought (cell_count o) ≤ greatest
 count_most o = go (cell_count o) refl
   where
-    go : (t : Outcome ℕ) → cell_count o ≡ t → or_nought t < 2 ^ 32
-    go (accepted n) e = let p = count_accepted o n e in rw p.2 at (area_fits o p.0 p.1)
+    go : (t : Outcome ℕ) → cell_count o ≡ t → or_nought t ≤ greatest
+    go (accepted n) e = let p = count_accepted o n e in rw p.2 at (area_most o p.0 p.1)
     go (refused k) e = omega arith
 
-pub cells_most : (o : Outline) → cell_number o < 2 ^ 32
+pub cells_most : (o : Outline) → cell_number o ≤ greatest
 unfolding cell_number
 cells_most o = go (traced o)
   where
-    go : (t : Outcome Octagon) → or_nought (then t cell_count) < 2 ^ 32
+    go : (t : Outcome Octagon) → or_nought (then t cell_count) ≤ greatest
     go (accepted a) = count_most a
     go (refused k) = omega arith
 
-pub total_cells_most : (rs : List Record) → total_cells rs ≤ length rs * 4294967295
+pub total_cells_most : (rs : List Record) → total_cells rs ≤ length rs * greatest
 total_cells_most [] = omega arith
 total_cells_most (r ∷ rs) = omega (arith, cells_most r.outline, total_cells_most rs)
+
+-- a sheet has at most 2,730 plots, so their sum fits an unsigned 64-bit number
+pub total_fits : (s : List ℕ) (len c : ℕ) → checked s len ≡ accepted c → total_cells (plots s len) < 2 ^ 64
+total_fits s len c e = let p = checked_plotted s len c e in omega (arith, total_cells_most (plots s len), p.many, frame_few s len c p.frame)
 
 -- ---- the rows from the k-th on
 

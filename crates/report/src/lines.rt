@@ -25,15 +25,24 @@ impl Page<'_> {
     }
 
     // The row of a plot with this many cells.
-    pub fn put_row(&mut self, r: Record, cells: u32)
+    pub fn put_row(&mut self, r: Record, cells: u64)
         requires { HasRoom self.old (row_line r cells) }
         ensures { Written self.old (row_line r cells) self.new }
     {
         let o = r.outline;
-        let fee = r.fee_row as u32;
-        let numbers = [o.n0, o.n1, o.n2, o.n3, o.n4, o.n5, o.n6, o.n7, cells, fee];
         self.put_start(r.number, o.i, o.j);
-        self.put_numbers(&numbers);
+        self.put_numbers(&[
+            o.n0 as u64,
+            o.n1 as u64,
+            o.n2 as u64,
+            o.n3 as u64,
+            o.n4 as u64,
+            o.n5 as u64,
+            o.n6 as u64,
+            o.n7 as u64,
+            cells,
+            r.fee_row as u64,
+        ]);
     }
 
     // The last line: how many plots there are, and how many cells they have together.
@@ -54,6 +63,6 @@ impl Page<'_> {
         ensures { Written self.old (refused_line number) self.new }
     {
         self.put_word(b"refused");
-        self.put_numbers(&[number]);
+        self.put_numbers(&[number as u64]);
     }
 }

@@ -10,7 +10,7 @@ use outline::Outline;
 
 // The number of cells inside an outline, and 0 for one that is refused.
 #[tactic(auto, unfolding(crate::specs::Listing::cell_number))]
-fn cells(o: Outline) -> u32
+fn cells(o: Outline) -> u64
     ensures { result ≡ cell_number o }
 {
     outline::to_octagon(o)
@@ -32,7 +32,7 @@ fn put_rows(page: &mut Page, sheet: &[u8], len: usize, c: u32) -> u64
         };
         let n = cells(r.outline);
         page.put_row(r, n);
-        sum += n as u64;
+        sum += n;
     }
     sum
 }

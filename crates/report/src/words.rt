@@ -46,12 +46,12 @@ impl Page<'_> {
     }
 
     // The rest of a line: numbers, each after a space, and the newline.
-    pub fn put_numbers(&mut self, values: &[u32])
+    pub fn put_numbers(&mut self, values: &[u64])
         requires { HasRoom self.old (spaced (map decimal values.now)) }
         ensures { Written self.old (spaced (map decimal values.now)) self.new }
     {
         for value in values {
-            self.put_number(*value as u64);
+            self.put_number(*value);
         }
         self.put_byte(b'\n');
     }

@@ -7,14 +7,15 @@ use Rattle.octagon.specs.Outcome.{accepted, refused}
 use Rattle.octagon.proofs.Outcomes.{then_accepted, map_accepted}
 use Rattle.sheet.specs.declared.Record.{Record}
 use Rattle.sheet.specs.declared.trailer.Trailer.{Trailer}
+use Rattle.sheet.specs.Layout.{map_limit}
 use Rattle.sheet.specs.Trailer.{trailer_length, trailer_at}
 use Rattle.sheet.specs.Order.{nth, Ascending}
 use Rattle.sheet.specs.Sheets.{Sheet, first, sheet_of}
 use Rattle.sheet.specs.Checking.{framed, surveyed, inspected, parsed, plots, checked, fetched}
-use Rattle.sheet.specs.Cases.{GoodFrame, stated_plots, HasOctagon}
+use Rattle.sheet.specs.Cases.{GoodFrame, stated_plots, stated_limit, HasOctagon, HasOctagonIn}
 use Rattle.sheet.proofs.Plots.{length_plots}
 use Rattle.sheet.proofs.Frames.{Framing, framing, framed_good, framed_when}
-use Rattle.sheet.proofs.Surveys.{surveyed_when, surveyed_passed}
+use Rattle.sheet.proofs.Surveys.{surveyed_when, surveyed_passed, have_octagons}
 
 -- ---- the frame first, and then the records
 
@@ -22,7 +23,7 @@ pub inspected_frame : {k : ℕ} (s : List ℕ) (len : ℕ) → framed s len ≡ 
 unfolding inspected
 inspected_frame s len e = rw e
 
-pub inspected_records : {z : Trailer} (s : List ℕ) (len : ℕ) → framed s len ≡ accepted z → inspected s len ≡ surveyed z 0 (sheet_of s len z).plots
+pub inspected_records : {z : Trailer} (s : List ℕ) (len : ℕ) → framed s len ≡ accepted z → inspected s len ≡ surveyed (map_limit z.length) z 0 (sheet_of s len z).plots
 unfolding inspected
 inspected_records s len e = rw e
 
@@ -33,19 +34,22 @@ pub record Good (s : List ℕ) (len : ℕ) (z : Trailer) : Type 0 where
   pub is_trailer : z ≡ trailer_at s (len - trailer_length)
   pub good_frame : GoodFrame s len z.count
   pub framing : Framing s len z
+  pub on_its_map : Ascending (HasOctagonIn (map_limit z.length)) 0 (sheet_of s len z).plots
   pub ascending : Ascending HasOctagon 0 (sheet_of s len z).plots
 
 pub inspected_good : (s : List ℕ) (len : ℕ) (z : Trailer) → inspected s len ≡ accepted z → Good s len z
 unfolding inspected
 inspected_good s len z e =
-    let t = then_accepted (framed s len) (λ y. surveyed y 0 (sheet_of s len y).plots) z e in
-    let p = surveyed_passed t.between z 0 (sheet_of s len t.between).plots t.second in
+    let t = then_accepted (framed s len) (λ y. surveyed (map_limit y.length) y 0 (sheet_of s len y).plots) z e in
+    let p = surveyed_passed (map_limit t.between.length) t.between z 0 (sheet_of s len t.between).plots t.second in
     let f : framed s len ≡ accepted z = t.first ∙ ap accepted (sym p.1) in
     let g = framed_good s len z f in
-    record { is_trailer = g.1; good_frame = g.0; framing = framing s len z f; ascending = rw (← p.1) at p.0 }
+    let h : Ascending (HasOctagonIn (map_limit z.length)) 0 (sheet_of s len z).plots = rw (← p.1) at p.0 in
+    record { is_trailer = g.1; good_frame = g.0; framing = framing s len z f; on_its_map = h; ascending = have_octagons z.length h }
 
-pub inspected_when : (s : List ℕ) (len c : ℕ) → GoodFrame s len c → Ascending HasOctagon 0 (stated_plots s len) → inspected s len ≡ accepted (trailer_at s (len - trailer_length))
-inspected_when s len c f g = inspected_records s len (framed_when s len c f) ∙ surveyed_when _ g
+pub inspected_when : (s : List ℕ) (len c : ℕ) → GoodFrame s len c → Ascending (HasOctagonIn (stated_limit s len)) 0 (stated_plots s len)
+    → inspected s len ≡ accepted (trailer_at s (len - trailer_length))
+inspected_when s len c f g = inspected_records s len (framed_when s len c f) ∙ surveyed_when _ _ g
 
 -- ---- what it says
 
@@ -112,6 +116,7 @@ pub record Plotted (s : List ℕ) (len c : ℕ) : Type 0 where
   pub many : length (plots s len) ≡ c
   pub are : plots s len ≡ stated_plots s len
   pub frame : GoodFrame s len c
+  pub on_its_map : Ascending (HasOctagonIn (stated_limit s len)) 0 (plots s len)
   pub ascending : Ascending HasOctagon 0 (plots s len)
   pub fetch : (k : ℕ) → fetched s len k ≡ nth (plots s len) k
 
@@ -126,6 +131,7 @@ checked_plotted s len c e =
       many = ap length q ∙ length_plots z.length s (first len z.distance) z.count ∙ d.count_is;
       are = q ∙ ap (λ (t : Trailer). (sheet_of s len t).plots) g.is_trailer;
       frame = rw d.count_is at g.good_frame;
+      on_its_map = rw (q, ← g.is_trailer) g.on_its_map;
       ascending = rw q g.ascending;
       fetch = λ k. fetched_plot s len k p ∙ ap (λ (rs : List Record). nth rs k) (sym q);
     }

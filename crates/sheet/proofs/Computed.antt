@@ -10,16 +10,16 @@ use Rattle.octagon.specs.Outcome.{accepted, refused}
 use Rattle.octagon.specs.NormalForm.{is_on_map, placed}
 use Rattle.outline.specs.Closing.{closes}
 use Rattle.outline.specs.Walk.{with_sides, vertex}
-use Rattle.outline.specs.Tracing.{bounds_at, drawn, traced}
+use Rattle.outline.specs.Tracing.{bounds_at, drawn, traced, traced_in}
 use Rattle.records.specs.Numbers.{signed, twos}
 use Rattle.records.specs.Parts.{splice}
 use Rattle.sheet.specs.declared.Record.{Record}
-use Rattle.sheet.specs.Layout.{layout_of, encoded, decoded}
+use Rattle.sheet.specs.Layout.{layout_of, encoded, decoded, map_limit}
 use Rattle.sheet.specs.Trailer.{trailer, trailer_at}
 use Rattle.sheet.specs.Order.{nth, present, rank, put_in_order}
 use Rattle.sheet.specs.Sheets.{plots_from, records_bytes, sheet_bytes}
 use Rattle.sheet.specs.Checking.{stated, framed, judged, surveyed, inspected, parsed, checked, fetched, read}
-use Rattle.sheet.specs.Writing.{written_over, started, after_start, admitted, insertion, after_insert}
+use Rattle.sheet.specs.Writing.{laid_over, started, after_start, admitted, insertion, after_insert}
 
 abbrev pub plot : ℕ → ℤ → ℤ → List ℕ → ℕ → Record
 plot v i j n f = record { number = v; outline = with_sides i j n; fee_row = f }
@@ -37,9 +37,9 @@ uneven = plot 286397204 (negsuc 299) (pos 515) (1070 ∷ 3452 ∷ 461 ∷ 2371 �
 
 -- ---- a sheet with fee rows
 
--- a buffer of 110 bytes, each 9
+-- a buffer of 170 bytes, each 9
 abbrev pub buffer : List ℕ
-buffer = replicate 110 9
+buffer = replicate 170 9
 
 -- the bytes of each plot but for its fee row
 abbrev pub seven_bytes : List ℕ
@@ -51,6 +51,22 @@ thirteenth_bytes = 143 ∷ 44 ∷ 0 ∷ 0 ∷ 0 ∷ 0 ∷ 0 ∷ 0 ∷ 0 ∷ 0 �
 abbrev pub uneven_bytes : List ℕ
 uneven_bytes = 20 ∷ 19 ∷ 18 ∷ 17 ∷ 212 ∷ 254 ∷ 3 ∷ 2 ∷ 46 ∷ 4 ∷ 124 ∷ 13 ∷ 205 ∷ 1 ∷ 67 ∷ 9 ∷ 166 ∷ 11 ∷ 187 ∷ 7 ∷ 215 ∷ 5 ∷ 250 ∷ 10 ∷ []
 
+-- and in the layout of U10
+abbrev pub seven_wide : List ℕ
+seven_wide =
+    7 ∷ 0 ∷ 0 ∷ 0 ∷ 2 ∷ 0 ∷ 0 ∷ 0 ∷ 255 ∷ 255 ∷ 255 ∷ 255 ∷ 3 ∷ 0 ∷ 0 ∷ 0 ∷ 0 ∷ 0 ∷ 0 ∷ 0 ∷ 1 ∷ 0 ∷ 0 ∷ 0
+    ∷ 0 ∷ 0 ∷ 0 ∷ 0 ∷ 3 ∷ 0 ∷ 0 ∷ 0 ∷ 0 ∷ 0 ∷ 0 ∷ 0 ∷ 1 ∷ 0 ∷ 0 ∷ 0 ∷ 0 ∷ 0 ∷ 0 ∷ 0 ∷ []
+
+abbrev pub thirteenth_wide : List ℕ
+thirteenth_wide =
+    143 ∷ 44 ∷ 0 ∷ 0 ∷ 0 ∷ 0 ∷ 0 ∷ 0 ∷ 0 ∷ 0 ∷ 0 ∷ 0 ∷ 0 ∷ 0 ∷ 0 ∷ 0 ∷ 1 ∷ 0 ∷ 0 ∷ 0 ∷ 0 ∷ 0 ∷ 0 ∷ 0
+    ∷ 1 ∷ 0 ∷ 0 ∷ 0 ∷ 0 ∷ 0 ∷ 0 ∷ 0 ∷ 1 ∷ 0 ∷ 0 ∷ 0 ∷ 0 ∷ 0 ∷ 0 ∷ 0 ∷ 1 ∷ 0 ∷ 0 ∷ 0 ∷ []
+
+abbrev pub uneven_wide : List ℕ
+uneven_wide =
+    20 ∷ 19 ∷ 18 ∷ 17 ∷ 212 ∷ 254 ∷ 255 ∷ 255 ∷ 3 ∷ 2 ∷ 0 ∷ 0 ∷ 46 ∷ 4 ∷ 0 ∷ 0 ∷ 124 ∷ 13 ∷ 0 ∷ 0 ∷ 205 ∷ 1 ∷ 0 ∷ 0
+    ∷ 67 ∷ 9 ∷ 0 ∷ 0 ∷ 166 ∷ 11 ∷ 0 ∷ 0 ∷ 187 ∷ 7 ∷ 0 ∷ 0 ∷ 215 ∷ 5 ∷ 0 ∷ 0 ∷ 250 ∷ 10 ∷ 0 ∷ 0 ∷ []
+
 -- the trailer of n records of L bytes, d bytes in all, each number below 256
 abbrev pub written_trailer : ℕ → ℕ → ℕ → List ℕ
 written_trailer d n L = d ∷ 0 ∷ 0 ∷ 0 ∷ n ∷ 0 ∷ 0 ∷ 0 ∷ L ∷ 0 ∷ 0 ∷ 0 ∷ 71 ∷ 82 ∷ 78 ∷ 68 ∷ []
@@ -59,35 +75,35 @@ written_trailer d n L = d ∷ 0 ∷ 0 ∷ 0 ∷ n ∷ 0 ∷ 0 ∷ 0 ∷ L ∷ 0 
 abbrev pub made : List ℕ
 made =
     9 ∷ 9 ∷ 9 ∷
-    (seven_bytes ++ (12 ∷ 0 ∷ (thirteenth_bytes ++ (45 ∷ 1 ∷ (uneven_bytes ++ (91 ∷ 60 ∷ (written_trailer 78 3 26 ++ replicate 13 9)))))))
+    (seven_wide ++ (12 ∷ 0 ∷ (thirteenth_wide ++ (45 ∷ 1 ∷ (uneven_wide ++ (91 ∷ 60 ∷ (written_trailer 138 3 46 ++ replicate 13 9)))))))
 
-makes : after_insert (after_insert (after_insert (after_start buffer 3) 19 (thirteenth 301)) 45 (uneven 15451)) 71 (seven 12) ≡ made
-unfolding after_start started written_over sheet_bytes records_bytes splice trailer after_insert insertion admitted parsed inspected framed stated trailer_at plots_from surveyed judged layout_of decoded encoded signed twos traced closes placed is_on_map drawn bounds_at vertex
+makes : after_insert (after_insert (after_insert (after_start buffer 3) 19 (thirteenth 301)) 65 (uneven 15451)) 111 (seven 12) ≡ made
+unfolding after_start started laid_over sheet_bytes records_bytes splice trailer after_insert insertion admitted parsed inspected framed stated trailer_at plots_from surveyed judged map_limit traced_in layout_of decoded encoded signed twos traced closes placed is_on_map drawn bounds_at vertex
 makes = refl
 
 -- what is read of it, and of a part of it
-pub reads : (checked made 97 ≡ accepted 3)
-    × (map (fetched made 97) (0 ∷ 1 ∷ 2 ∷ 3 ∷ []) ≡ accepted (seven 12) ∷ accepted (thirteenth 301) ∷ accepted (uneven 15451) ∷ refused 13 ∷ [])
-    × (map (read made 97) (2 ∷ 3 ∷ []) ≡ accepted (uneven 15451) ∷ refused 13 ∷ []) × (fetched made 96 9 ≡ refused 9) × (read made 96 9 ≡ refused 9) × (read made 15 9 ≡ refused 8)
-unfolding fetched read checked parsed inspected framed stated trailer_at plots_from surveyed judged layout_of decoded signed traced closes placed is_on_map drawn bounds_at vertex
+pub reads : (checked made 157 ≡ accepted 3)
+    × (map (fetched made 157) (0 ∷ 1 ∷ 2 ∷ 3 ∷ []) ≡ accepted (seven 12) ∷ accepted (thirteenth 301) ∷ accepted (uneven 15451) ∷ refused 13 ∷ [])
+    × (map (read made 157) (2 ∷ 3 ∷ []) ≡ accepted (uneven 15451) ∷ refused 13 ∷ []) × (fetched made 156 9 ≡ refused 9) × (read made 156 9 ≡ refused 9) × (read made 15 9 ≡ refused 8)
+unfolding fetched read checked parsed inspected framed stated trailer_at plots_from surveyed judged map_limit traced_in layout_of decoded signed traced closes placed is_on_map drawn bounds_at vertex
 reads = (refl, refl, refl, refl, refl, refl)
 
 -- ---- a sheet of document 01's records
 
 -- two plots after a heading of 3 bytes, in the same buffer
 abbrev pub base_made : List ℕ
-base_made = 9 ∷ 9 ∷ 9 ∷ (seven_bytes ++ (uneven_bytes ++ (written_trailer 48 2 24 ++ replicate 43 9)))
+base_made = 9 ∷ 9 ∷ 9 ∷ (seven_bytes ++ (uneven_bytes ++ (written_trailer 48 2 24 ++ replicate 103 9)))
 
 pub base_reads : (checked base_made 67 ≡ accepted 2)
     × (map (fetched base_made 67) (0 ∷ 1 ∷ 2 ∷ []) ≡ accepted (seven 0) ∷ accepted (uneven 0) ∷ refused 13 ∷ []) × (map (read base_made 67) (1 ∷ 2 ∷ []) ≡ accepted (uneven 0) ∷ refused 13 ∷ [])
-unfolding fetched read checked parsed inspected framed stated trailer_at plots_from surveyed judged layout_of decoded signed traced closes placed is_on_map drawn bounds_at vertex
+unfolding fetched read checked parsed inspected framed stated trailer_at plots_from surveyed judged map_limit traced_in layout_of decoded signed traced closes placed is_on_map drawn bounds_at vertex
 base_reads = (refl, refl, refl)
 
 -- an insert rewrites it: the old plots have the fee row 0; and so does one into a sheet of none, whose trailer says 24
 pub rewrites : (after_insert base_made 67 (thirteenth 301)
-    ≡ 9 ∷ 9 ∷ 9 ∷ (seven_bytes ++ (0 ∷ 0 ∷ (thirteenth_bytes ++ (45 ∷ 1 ∷ (uneven_bytes ++ (0 ∷ 0 ∷ (written_trailer 78 3 26 ++ replicate 13 9))))))))
-    × (after_insert (written_trailer 0 0 24 ++ replicate 30 8) 16 (uneven 15451) ≡ uneven_bytes ++ (91 ∷ 60 ∷ (written_trailer 26 1 26 ++ replicate 4 8)))
-unfolding written_over sheet_bytes records_bytes splice trailer after_insert insertion admitted parsed inspected framed stated trailer_at plots_from surveyed judged layout_of decoded encoded signed twos traced closes placed is_on_map drawn bounds_at vertex
+    ≡ 9 ∷ 9 ∷ 9 ∷ (seven_wide ++ (0 ∷ 0 ∷ (thirteenth_wide ++ (45 ∷ 1 ∷ (uneven_wide ++ (0 ∷ 0 ∷ (written_trailer 138 3 46 ++ replicate 13 9))))))))
+    × (after_insert (written_trailer 0 0 24 ++ replicate 50 8) 16 (uneven 15451) ≡ uneven_wide ++ (91 ∷ 60 ∷ (written_trailer 46 1 46 ++ replicate 4 8)))
+unfolding laid_over sheet_bytes records_bytes splice trailer after_insert insertion admitted parsed inspected framed stated trailer_at plots_from surveyed judged map_limit traced_in layout_of decoded encoded signed twos traced closes placed is_on_map drawn bounds_at vertex
 rewrites = (refl, refl)
 
 -- ---- any layout, and the order of records

@@ -1,6 +1,6 @@
 -- A refused insert leaves every byte (`insert_refused`), and an accepted one the sheet with one record more (`insert_accepted`), in which
 -- no record is lost (`nothing_lost`); how much longer it is (`longer`); the order of records that are fetched (`fetched_ascending`). Assumes nothing.
-use mathlib.Core.Path.{◌≡◌, sym, ap, subst, ◌∙◌}
+use mathlib.Core.Path.{◌≡◌, refl, sym, ap, subst, ◌∙◌}
 use mathlib.Core.Logic.{◌↔◌, ◌⊎◌, inl, inr}
 use mathlib.Core.List.{List}
 use Prim.Native.Nat.{ℕ, suc, ◌+◌, ◌-◌, ◌*◌, ◌≤◌, ◌<◌}
@@ -10,11 +10,12 @@ use lib.Seq.{length-take-le}
 use lib.Dec.{ltb, eqb}
 use borrow.Author.Tests.{ltb-true, ltb-false, eqb-true, eqb-false}
 use Rattle.integers.proofs.Tests.{cases}
-use Rattle.octagon.specs.Outcome.{accepted, refused}
+use Rattle.octagon.specs.Outcome.{Outcome, accepted, refused, left}
 use Rattle.octagon.proofs.Outcomes.{accepted_same, then_accepted, map_accepted, map_refused}
 use Rattle.outline.specs.Tracing.{traced}
 use Rattle.records.specs.Numbers.{AreBytes}
 use Rattle.records.specs.Parts.{part}
+use Rattle.records.proofs.Numbers.{take_bytes}
 use Rattle.sheet.specs.declared.Record.{Record}
 use Rattle.sheet.specs.declared.trailer.Trailer.{Trailer}
 use Rattle.sheet.specs.Layout.{record_length, layout_of, Fits, Sized}
@@ -30,6 +31,7 @@ use Rattle.sheet.proofs.Order.{length_put_in_order, ascending_put_in_order, all_
 use Rattle.sheet.proofs.Plots.{length_plots, plots_fit}
 use Rattle.sheet.proofs.Checks.{Good, inspected_good, parsed_sheet, parsed_inspected, checked_count, checked_trailer, checked_plotted, fetched_plot}
 use Rattle.sheet.proofs.Overwritten.{over_parsed, over_trailer, over_heading, over_past, over_length}
+use Rattle.sheet.proofs.BytesWritten.{laid_bytes}
 use Rattle.sheet.proofs.Inserts.{Admitted, admitted_passed, next_length_stated}
 
 -- "A refused call alters nothing it was lent": every byte is as it was
@@ -40,14 +42,14 @@ insert_refused s len r k e = rw ((map_refused (insertion s len r) written_length
 -- ---- what is accepted
 
 -- the outline, the sheet and the record are, and the sheet with the record is what is written
-record Taken (s : List ℕ) (len : ℕ) (r : Record) (y : Sheet) : Type 0 where
+pub record Taken (s : List ℕ) (len : ℕ) (r : Record) (y : Sheet) : Type 0 where
   pub octagon : HasOctagon r
   pub trailer : Trailer
   pub is_inspected : inspected s len ≡ accepted trailer
   pub admission : Admitted s r (sheet_of s len trailer)
   pub sheet_is : y ≡ with_plot r (sheet_of s len trailer)
 
-insertion_taken : (s : List ℕ) (len : ℕ) (r : Record) (y : Sheet) → insertion s len r ≡ accepted y → Taken s len r y
+pub insertion_taken : (s : List ℕ) (len : ℕ) (r : Record) (y : Sheet) → insertion s len r ≡ accepted y → Taken s len r y
 unfolding insertion
 insertion_taken s len r y e =
     let t = then_accepted (traced r.outline) _ y e in
@@ -99,7 +101,7 @@ module _ (s : List ℕ) (len : ℕ) (r : Record) (z : Trailer) (b : AreBytes s) 
     before = λ k h. is k ∙ put_in_order_before r old k h ∙ sym (was k);
     here = is (rank r.number old) ∙ put_in_order_here r old;
     after = λ k h. is (suc k) ∙ put_in_order_after r old k h ∙ sym (was k);
-    trailer_is = subst (λ (n : ℕ). TrailerOf n (part (written_over s new) (sheet_length record_length new - trailer_length) trailer_length)) new_count (over_trailer s new a.short);
+    trailer_is = subst (λ (n : ℕ). TrailerOf record_length n (part (written_over s new) (sheet_length record_length new - trailer_length) trailer_length)) new_count (over_trailer s new a.short);
     heading = ap (λ (n : ℕ). take n (written_over s new)) (sym front) ∙ over_heading s new ∙ ap (λ (n : ℕ). take n s) heading_stated;
     past = over_past s new;
     same_length = over_length s new a.within;
@@ -108,6 +110,18 @@ module _ (s : List ℕ) (len : ℕ) (r : Record) (z : Trailer) (b : AreBytes s) 
   left_there : (y : Sheet) (n : ℕ) → y ≡ new → insertion s len r ≡ accepted y → written_length y ≡ n → GrownSheet s (after_insert s len r) len z.count r n
   unfolding after_insert
   left_there y n q i l = rw (i, ← l, q) grown_sheet
+
+-- what is left of a buffer of bytes is one
+pub insert_bytes : (s : List ℕ) (len : ℕ) (r : Record) → AreBytes s → AreBytes (after_insert s len r)
+unfolding after_insert
+insert_bytes s len r b = go (insertion s len r) refl
+  where
+    go : (o : Outcome Sheet) → insertion s len r ≡ o → AreBytes (left s o (written_over s))
+    go (refused k) e = b
+    go (accepted y) e =
+        let t = insertion_taken s len r y e in
+        let h : AreBytes y.heading = rw t.sheet_is (take_bytes (first len t.trailer.distance) s b) in
+        laid_bytes record_length s y b h
 
 -- "The old records and the new one then stand by rising number, with the trailer brought up to date, and the answer is the new length.
 -- Heading and bytes past the new length keep their values."
@@ -120,7 +134,7 @@ insert_accepted s len r n b v q =
     (t.trailer.count, left_there s len r t.trailer b v t.octagon t.is_inspected t.admission m.0 n t.sheet_is m.1 m.2)
 
 -- nothing is lost in the rewriting: what is fetched after an accepted insert is the old records and the new one, and no others, for sheets
--- of either record length
+-- of any record length
 pub nothing_lost : (s : List ℕ) (len : ℕ) (r : Record) (n : ℕ) → AreBytes s → Sized r → inserted s len r ≡ accepted n
     → (q : Record) → IsFetched (after_insert s len r) n q ↔ (IsFetched s len q ⊎ (q ≡ r))
 nothing_lost s len r n b v e q = (to, from)

@@ -7,7 +7,7 @@ use native.Mathlib.Omega.{arith}
 use lib.ListN.{length}
 use lib.Seq.{length-take-le}
 use lib.Dec.{ltb, eqb}
-use borrow.Author.Tests.{ltb-false, eqb-false}
+use borrow.Author.Tests.{ltb-false, le-ltb, eqb-false}
 use Rattle.integers.proofs.Tests.{or_false}
 use Rattle.octagon.specs.Octagon.{Octagon}
 use Rattle.octagon.specs.Outcome.{accepted, refused, then, left}
@@ -34,6 +34,9 @@ use Rattle.sheet.proofs.Checks.{Good}
 -- a sheet of n bytes that has room
 pub room_kept : (s : List ℕ) (n : ℕ) → has_no_room s n ≡ false → (n ≤ length s) × (n ≤ sheet_limit)
 room_kept s n e = let b = or_false (ltb (length s) n) (ltb sheet_limit n) e in (ltb-false (length s) n b.0, ltb-false sheet_limit n b.1)
+
+pub room_enough : (s : List ℕ) (n : ℕ) → n ≤ length s → n ≤ sheet_limit → has_no_room s n ≡ false
+room_enough s n h k = rw (le-ltb (length s) n h, le-ltb sheet_limit n k)
 
 -- ---- which records are admitted
 

@@ -23,7 +23,7 @@ use Rattle.sheet.proofs.Agreement.{conflict_found, conflict_none}
 use Rattle.sheet.proofs.Joins.{unite_differing, unite_room, unite_good, join_first, join_second, join_both, both_length}
 
 -- what a check that refuses says of the sheet
-refused_parsed : (s : List ℕ) (m k : ℕ) → checked s m ≡ refused k → parsed s m ≡ refused k
+pub refused_parsed : (s : List ℕ) (m k : ℕ) → checked s m ≡ refused k → parsed s m ≡ refused k
 refused_parsed s m k e = go (parsed s m) refl
   where
     go : (x : Outcome Sheet) → parsed s m ≡ x → parsed s m ≡ refused k

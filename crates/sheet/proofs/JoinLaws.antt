@@ -3,29 +3,25 @@
 use mathlib.Core.Path.{◌≡◌, sym, ap, ◌∙◌}
 use mathlib.Core.Logic.Iff
 use mathlib.Core.Logic.{◌↔◌, ◌⊎◌, inl, inr, ⊎_elim, ⊎_swap}
-use mathlib.Core.List.{List, [], ◌∷◌}
-use Prim.Native.Nat.{ℕ, zero, suc, ◌+◌}
+use mathlib.Core.List.{List}
+use Prim.Native.Nat.{ℕ, zero, suc}
 use native.Mathlib.Omega.{arith}
-use lib.ListN.{length}
 use Rattle.octagon.specs.Outcome.{accepted}
 use Rattle.octagon.proofs.Outcomes.{accepted_same, accepted_not_refused}
 use Rattle.records.specs.Numbers.{AreBytes}
-use Rattle.records.specs.Parts.{splice}
-use Rattle.records.proofs.Numbers.{take_bytes, drop_bytes, append_bytes}
-use Rattle.records.proofs.Fields.{packed_bytes}
+use Rattle.records.proofs.Numbers.{take_bytes}
 use Rattle.sheet.specs.declared.Record.{Record}
-use Rattle.sheet.specs.Layout.{record_length, layout_of, encoded, Sized}
-use Rattle.sheet.specs.Trailer.{trailer_layout, trailer_values, trailer}
+use Rattle.sheet.specs.Layout.{record_length, Sized}
 use Rattle.sheet.specs.Order.{nth}
 use Rattle.sheet.specs.Merging.{Among}
-use Rattle.sheet.specs.Sheets.{Sheet, rows_bytes, records_bytes, sheet_bytes}
 use Rattle.sheet.specs.Checking.{checked, fetched}
 use Rattle.sheet.specs.Cases.{stated_plots, stated_heading, IsFetched}
-use Rattle.sheet.specs.Writing.{written_over, inserted, after_insert}
+use Rattle.sheet.specs.Writing.{inserted, after_insert}
 use Rattle.sheet.specs.Joining.{union, joined, after_join, SameRecords}
 use Rattle.sheet.specs.JoiningCases.{TwoRecords}
 use Rattle.sheet.proofs.Checks.{fetched_plot}
 use Rattle.sheet.proofs.FetchCases.{fetched_none}
+use Rattle.sheet.proofs.BytesWritten.{laid_bytes}
 use Rattle.sheet.proofs.Grown.{insert_accepted, nothing_lost}
 use Rattle.sheet.proofs.Members.{one_record, ascending_same, parsed_among, stated_sheet, checked_stated}
 use Rattle.sheet.proofs.Joins.{either, join_taken, join_accepted}
@@ -112,26 +108,11 @@ two_records_either_order s m t n g = record {
 
 -- ---- three in either grouping
 
--- what is written is bytes, and so is a buffer of bytes after a join
-rows_are_bytes : (rs : List Record) → AreBytes (rows_bytes record_length rs)
-unfolding encoded
-rows_are_bytes [] i = omega arith
-rows_are_bytes (r ∷ rs) i =
-    append_bytes (encoded (layout_of record_length) r) (rows_bytes record_length rs) (packed_bytes (layout_of record_length) _) (rows_are_bytes rs) i
-
-sheet_is_bytes : (z : Sheet) → AreBytes z.heading → AreBytes (sheet_bytes record_length z)
-unfolding sheet_bytes records_bytes trailer
-sheet_is_bytes z h =
-    append_bytes z.heading _ h (append_bytes (rows_bytes record_length z.plots) _ (rows_are_bytes z.plots) (packed_bytes trailer_layout (trailer_values record_length (length z.plots))))
-
-over_bytes : (u : List ℕ) (z : Sheet) → AreBytes u → AreBytes z.heading → AreBytes (written_over u z)
-unfolding written_over splice
-over_bytes u z a h = append_bytes (sheet_bytes record_length z) _ (sheet_is_bytes z h) (drop_bytes (0 + length (sheet_bytes record_length z)) u a)
-
+-- a buffer of bytes is one after a join
 pub join_bytes : (s : List ℕ) (m : ℕ) (t : List ℕ) (n : ℕ) (u : List ℕ) (l : ℕ) → AreBytes s → AreBytes u → joined s m t n u ≡ accepted l → AreBytes (after_join s m t n u)
 join_bytes s m t n u l a b h =
     let k = join_taken s m t n u l h in
-    rw k.left_is (over_bytes u (union (stated_sheet s m) (stated_sheet t n)) b (take_bytes (stated_heading s m) s a))
+    rw k.left_is (laid_bytes record_length u (union (stated_sheet s m) (stated_sheet t n)) b (take_bytes (stated_heading s m) s a))
 
 apart : {A B C : Type 0} → ((A ⊎ B) ⊎ C) ↔ (A ⊎ (B ⊎ C))
 apart {A} {B} {C} = (to, from)

@@ -144,7 +144,7 @@ module _ (s : List ℕ) (m : ℕ) (t : List ℕ) (n c d : ℕ) (e : checked s m 
       checks = both_checked;
       records = both_fetched;
       rising = λ k a b. fetched_ascending (written_over u both) (written_length both) (joined_count s m t n c d) k a b both_checked;
-      trailer_is = subst (λ (k : ℕ). TrailerOf k (part (written_over u both) (written_length both - trailer_length) trailer_length)) both_count (over_trailer u both g.short);
+      trailer_is = subst (λ (k : ℕ). TrailerOf record_length k (part (written_over u both) (written_length both - trailer_length) trailer_length)) both_count (over_trailer u both g.short);
       heading = rw (checked_stated s m c e).heading_long at (over_heading u both);
       past = over_past u both;
       same_length = over_length u both g.within;
@@ -184,7 +184,7 @@ join_taken s m t n u l h =
       length_is = sym z.2 ∙ ap (λ (a : Sheet). written_length a) g.1;
     }
 
--- the records of both by rising number, at 26 bytes each, "under the first sheet's heading", and a plot in both once; "Bytes of the third
+-- the records of both by rising number, at 46 bytes each, "under the first sheet's heading", and a plot in both once; "Bytes of the third
 -- past the new length keep their values"
 pub join_accepted : (s : List ℕ) (m : ℕ) (t : List ℕ) (n : ℕ) (u : List ℕ) (l : ℕ) → AreBytes s → AreBytes t → joined s m t n u ≡ accepted l
     → (c : ℕ) × (d : ℕ) × JoinedSheet s m t n u (after_join s m t n u) c d l

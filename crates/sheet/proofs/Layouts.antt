@@ -16,7 +16,8 @@ use Rattle.records.specs.Parts.{part}
 use Rattle.records.proofs.Numbers.{drop_bytes, signed_twos, twos_below, twos_signed}
 use Rattle.records.proofs.Fields.{Fit, length_packed, unpacked_all, packed_unpacked, unpacked_take, unpacked_fit, length_unpacked, narrow_at, fit_when, fit_at}
 use Rattle.sheet.specs.declared.Record.{Record}
-use Rattle.sheet.specs.Layout.{field_count, fee_width, base_layout, base_length, fee_layout, fee_length, IsRecordLength, base, fee, is_record_length, record_length, layout_of, values, record_from, encoded, decoded, Fits}
+use Rattle.sheet.specs.Layout.{field_count, number_width, fee_width, base_layout, base_length, fee_layout, fee_length, county_layout, county_length}
+use Rattle.sheet.specs.Layout.{IsRecordLength, base, fee, county, is_record_length, record_length, layout_of, values, record_from, encoded, decoded, Fits}
 
 -- ---- a list by its numbers
 
@@ -89,33 +90,39 @@ field_below ws s at k h l = fit_at k l (unpacked_fit ws (drop at s) (drop_bytes 
 -- ---- the layouts that there are
 
 -- what holds of each record length and its layout
-pub by_length : (P : ℕ → List ℕ → Type 0) → P base_length base_layout → P fee_length fee_layout → (L : ℕ) → IsRecordLength L → P L (layout_of L)
+pub by_length : (P : ℕ → List ℕ → Type 0) → P base_length base_layout → P fee_length fee_layout → P county_length county_layout → (L : ℕ) → IsRecordLength L → P L (layout_of L)
 unfolding layout_of
-by_length P p q _ base = p
-by_length P p q _ fee = q
+by_length P p q r _ base = p
+by_length P p q r _ fee = q
+by_length P p q r _ county = r
 
 -- what holds of each layout, and of one that has no fields, whatever the length
-by_layout : (P : List ℕ → Type 0) → P base_layout → P fee_layout → P (replicate field_count 0) → (L : ℕ) → P (layout_of L)
+by_layout : (P : List ℕ → Type 0) → P base_layout → P fee_layout → P county_layout → P (replicate field_count 0) → (L : ℕ) → P (layout_of L)
 unfolding layout_of
-by_layout P p q z L = pick (eqb L base_length) (eqb L fee_length)
+by_layout P p q r z L = pick (eqb L base_length) (eqb L fee_length) (eqb L county_length)
   where
-    pick : (b d : Bool) → P (cond b base_layout (cond d fee_layout (replicate field_count 0)))
-    pick true d = p
-    pick false true = q
-    pick false false = z
+    pick : (b d e : Bool) → P (cond b base_layout (cond d fee_layout (cond e county_layout (replicate field_count 0))))
+    pick true d e = p
+    pick false true e = q
+    pick false false true = r
+    pick false false false = z
 
 pub every_field : (L : ℕ) → length (layout_of L) ≡ field_count
-every_field = by_layout (λ ws. length ws ≡ field_count) refl refl refl
+every_field = by_layout (λ ws. length ws ≡ field_count) refl refl refl refl
 
 pub all_narrow : (L : ℕ) → narrow (layout_of L) ≡ true
-all_narrow = by_layout (λ ws. narrow ws ≡ true) refl refl refl
+all_narrow = by_layout (λ ws. narrow ws ≡ true) refl refl refl refl
 
 pub narrow_fields : (L k : ℕ) → get_or (layout_of L) k 0 ≤ 4
 narrow_fields L = narrow_at (layout_of L) (all_narrow L)
 
+-- the plot number comes first, and has one width
+pub number_first : (L : ℕ) → IsRecordLength L → get_or (layout_of L) 0 0 ≡ number_width
+number_first = by_length (λ L ws. get_or ws 0 0 ≡ number_width) refl refl refl
+
 -- a fee row is of at most 16 bits
 pub narrow_fee : (L : ℕ) → get_or (layout_of L) 11 0 ≤ fee_width
-narrow_fee = by_layout (λ ws. get_or ws 11 0 ≤ fee_width) (omega arith) (omega arith) (omega arith)
+narrow_fee = by_layout (λ ws. get_or ws 11 0 ≤ fee_width) (omega arith) (omega arith) (omega arith) (omega arith)
 
 -- the fields of a record of L bytes take no more than these
 pub within_length : (L : ℕ) → total_width (layout_of L) ≤ L
@@ -125,40 +132,47 @@ within_length L =
     (λ b. let e = eqb-true L base_length b in rw b (omega arith))
     (λ b. cases (eqb L fee_length)
     (λ d. let e = eqb-true L fee_length d in rw (b, d) (omega arith))
-    (λ d. rw (b, d) (omega arith)))
+    (λ d. cases (eqb L county_length)
+    (λ e. let f = eqb-true L county_length e in rw (b, d, e) (omega arith))
+    (λ e. rw (b, d, e) (omega arith))))
 
 -- and where there are such records, all of them
 pub takes_all : (L : ℕ) → IsRecordLength L → total_width (layout_of L) ≡ L
-takes_all = by_length (λ L ws. total_width ws ≡ L) refl refl
+takes_all = by_length (λ L ws. total_width ws ≡ L) refl refl refl
 
--- records of 24 bytes have document 01's layout, those of 26 the one with a fee row
-pub each_layout : (layout_of base_length ≡ base_layout) × (layout_of fee_length ≡ fee_layout)
+-- records of 24 bytes have document 01's layout, those of 26 the one with a fee row, and those of 46 the one of U10
+pub each_layout : (layout_of base_length ≡ base_layout) × (layout_of fee_length ≡ fee_layout) × (layout_of county_length ≡ county_layout)
 unfolding layout_of
-each_layout = (refl, refl)
+each_layout = (refl, refl, refl)
 
--- records that are written have a fee row
+-- records that are written have U10's layout
 pub record_is_length : IsRecordLength record_length
-record_is_length = fee
+record_is_length = county
 
-pub record_layout : layout_of record_length ≡ fee_layout
-record_layout = each_layout.1
+pub record_layout : layout_of record_length ≡ county_layout
+record_layout = each_layout.2
 
 -- the test of a record length
 pub tests_length : (L : ℕ) → is_record_length L ≡ true → IsRecordLength L
 tests_length L e =
     cases (eqb L base_length)
     (λ b. rw (eqb-true L base_length b) base)
-    (λ b. cases (eqb L fee_length) (λ d. rw (eqb-true L fee_length d) fee) (λ d. absurd (true_is_not_false (sym e ∙ rw (b, d)))))
+    (λ b. cases (eqb L fee_length)
+    (λ d. rw (eqb-true L fee_length d) fee)
+    (λ d. cases (eqb L county_length) (λ f. rw (eqb-true L county_length f) county) (λ f. absurd (true_is_not_false (sym e ∙ rw (b, d, f))))))
 
 pub passes_length_test : (L : ℕ) → IsRecordLength L → is_record_length L ≡ true
 passes_length_test _ base = refl
 passes_length_test _ fee = refl
+passes_length_test _ county = refl
 
 -- none is shorter than document 01's, and no record is longer than those that are written
 pub shortest : (L : ℕ) → IsRecordLength L → base_length ≤ L
 shortest _ base = omega arith
 shortest _ fee = omega arith
+shortest _ county = omega arith
 
 pub longest : (L : ℕ) → IsRecordLength L → L ≤ record_length
 longest _ base = omega arith
 longest _ fee = omega arith
+longest _ county = omega arith

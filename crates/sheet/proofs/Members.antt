@@ -129,7 +129,7 @@ checked_stated s m c e =
     let g = rw p.are at p.ascending in
     let h = p.frame.size.within in
     record {
-      is_parsed = parsed_sheet s m (inspected_when s m c p.frame g);
+      is_parsed = parsed_sheet s m (inspected_when s m c p.frame (rw p.are at p.on_its_map));
       many = ap length (sym p.are) ∙ p.many;
       heading_long = length-take-le (stated_heading s m) s (omega arith);
       ascending = g;

@@ -10,25 +10,30 @@ use lib.ListN.{length, take, drop, get_or, length-map}
 use lib.Seq.{take-take, drop-drop}
 use borrow.Author.Tests.{lt-ltb, le-ltb, eq-eqb, ne_eqb}
 use Rattle.octagon.specs.Outcome.{accepted}
-use Rattle.records.specs.Numbers.{AreBytes, total_width, narrow, unpacked}
+use Rattle.records.specs.Numbers.{AreBytes, number, unpacked}
 use Rattle.records.specs.Parts.{part}
 use Rattle.records.specs.Rows.{records}
 use Rattle.records.proofs.Parts.{drop_take}
 use Rattle.records.proofs.Rows.{length_records, records_more}
 use Rattle.records.proofs.Steps.{total_width_more}
 use Rattle.sheet.specs.declared.Record.{Record}
-use Rattle.sheet.specs.Layout.{field_count, number_width, fee_width, record_length, layout_of, record_from, decoded, Fits, Sized}
+use Rattle.sheet.specs.Layout.{field_count, number_width, fee_width, IsRecordLength, record_length, layout_of, decoded, Fits, Sized}
 use Rattle.sheet.specs.Order.{nth, All, none, more, Ascending, next, present, rank, put_in_order}
 use Rattle.sheet.specs.Sheets.{plots_from}
 use Rattle.sheet.specs.Cases.{HasOctagon}
-use Rattle.sheet.proofs.Layouts.{every_field, all_narrow, narrow_fields, narrow_fee, within_length, decoded_at, field_below}
+use Rattle.sheet.proofs.Layouts.{every_field, narrow_fields, narrow_fee, number_first, within_length, decoded_at, number_decoded, field_below}
 use Rattle.sheet.proofs.Order.{put_in_order_parts}
 use Rattle.sheet.proofs.Outlines.{accepted_fits}
 
--- ---- one record where it stands: ws is its layout, v are the numbers in its fields
+-- ---- one record where it stands
+
+-- it is read from an index on, and lies within the bytes of its length
+pub read_there : (L : ℕ) (s : List ℕ) (at : ℕ) → decoded (layout_of L) (drop at s) ≡ decoded (layout_of L) (part s at L)
+unfolding decoded
+read_there L s at = sym (decoded_at (layout_of L) s at L (within_length L))
 
 -- its number lies within it
-pub number_within : (L : ℕ) → get_or (layout_of L) 0 0 ≤ L
+number_within : (L : ℕ) → get_or (layout_of L) 0 0 ≤ L
 number_within L = omega (arith, total_width_more (layout_of L) 0 (omega (arith, every_field L)), within_length L)
 
 -- a field of at most m bytes that was read is a number of m bytes
@@ -36,21 +41,10 @@ field_small : (L : ℕ) (s : List ℕ) (at k m : ℕ) → AreBytes s → k < fie
 field_small L s at k m b h l =
     omega (arith, field_below (layout_of L) s at k b (omega (arith, every_field L)), pow-le-pow_right {n = 256} (omega arith) {i = get_or (layout_of L) k 0} {j = m} l)
 
-module _ (L : ℕ) (s : List ℕ) (at : ℕ) (ws : List ℕ) (e : ws ≡ layout_of L) where
-  pub fields_within : at + L ≤ length s → ((at + total_width ws ≤ length s) × (narrow ws ≡ true)) × (field_count ≡ length ws)
-  fields_within h = rw e ((omega (arith, within_length L), all_narrow L), sym (every_field L))
-
-  module _ (v : List ℕ) (f : v ≡ unpacked ws (drop at s)) where
-    -- and each is within the width of its field
-    module _ (b : (k : ℕ) → k < field_count → get_or v k 0 < 256 ^ get_or ws k 0) where
-      pub signs_fit : ((get_or ws 1 0 ≤ 4) × (get_or ws 2 0 ≤ 4)) × ((get_or v 1 0 < 256 ^ get_or ws 1 0) × (get_or v 2 0 < 256 ^ get_or ws 2 0))
-      signs_fit = (rw e (narrow_fields L 1, narrow_fields L 2), (b 1 (omega arith), b 2 (omega arith)))
-
-      pub fee_small : get_or v 11 0 < 256 ^ fee_width
-      fee_small = omega (arith, b 11 (omega arith), pow-le-pow_right {n = 256} (omega arith) {i = get_or ws 11 0} {j = fee_width} (rw e (narrow_fee L)))
-
-    pub read_there : record_from ws v ≡ decoded (layout_of L) (part s at L)
-    read_there = rw (f, e) (sym (decoded_at (layout_of L) s at L (within_length L)))
+-- the plot number is the number in the first bytes
+pub number_there : (L : ℕ) → IsRecordLength L → (s : List ℕ) (at : ℕ) → number (part s at number_width) ≡ (decoded (layout_of L) (part s at L)).number
+number_there L l s at =
+    ap (λ (w : ℕ). number (part s at w)) (sym (number_first L l)) ∙ number_decoded (layout_of L) s at L (omega (arith, every_field L)) (number_within L)
 
 -- ---- how many, and one by one
 

@@ -1,4 +1,4 @@
--- A record is read from and written to the places that documents 01 and 02 (U2) give its fields (`record_read`, `record_written`), for
+-- A record is read from and written to the places that documents 01 and 02 (U2, U10) give its fields (`record_read`, `record_written`), for
 -- each record length, and no other record has the same fields (`record_only`). Assumes nothing.
 use mathlib.Core.Path.{◌≡◌, refl, sym, ap, ◌∙◌}
 use mathlib.Core.List.{List}
@@ -7,15 +7,17 @@ use native.Mathlib.Omega.{arith}
 use lib.IntN.{ℤ}
 use Rattle.outline.specs.Walk.{side}
 use Rattle.outline.proofs.Steps.{eight}
-use Rattle.records.specs.Numbers.{number, signed}
+use Rattle.records.specs.Numbers.{number, signed, unpacked}
+use Rattle.records.specs.Fields.{field_at}
+use lib.ListN.{length, get_or}
 use Rattle.records.specs.Parts.{part}
 use Rattle.records.proofs.Fields.{fields_read}
 use Rattle.octagon.specs.Outcome.{accepted, refused}
 use Rattle.sheet.specs.declared.Record.{Record}
 use Rattle.sheet.specs.Answers.{no_record}
-use Rattle.sheet.specs.Layout.{fee_width, ended_by, base_layout, fee_layout, IsRecordLength, layout_of, encoded, decoded, Fits}
+use Rattle.sheet.specs.Layout.{fee_width, of_widths, base_layout, fee_layout, county_layout, IsRecordLength, layout_of, encoded, decoded, Fits}
 use Rattle.sheet.specs.Trailer.{trailer_length, trailer_at}
-use Rattle.sheet.specs.Bytes.{FeeField, no_field, last_field, RecordFields}
+use Rattle.sheet.specs.Bytes.{FeeField, no_field, last_field, county_field, side_width, RecordFields}
 use Rattle.sheet.specs.Order.{nth}
 use Rattle.sheet.specs.Sheets.{plots_from, first}
 use Rattle.sheet.specs.Cases.{GoodFrame, stated_plots, RecordAt}
@@ -25,20 +27,26 @@ use Rattle.sheet.proofs.Plots.{length_plots, plot_from}
 
 -- ---- reading
 
--- the fields of document 01, before a fee row of w bytes
-fields_of : (L w : ℕ) (b : List ℕ) → FeeField b (decoded (ended_by w) b) L → RecordFields L b (decoded (ended_by w) b)
+-- field k of a layout, by its place and its width
+field_there : (ws b : List ℕ) (k i w : ℕ) → k < length ws → i ≡ field_at ws k → w ≡ get_or ws k 0 → number (part b i w) ≡ get_or (unpacked ws b) k 0
+field_there ws b k i w h e q = rw (e, q) (fields_read ws b k h)
+
+-- i, j and the sides of w bytes each, before a fee row of f bytes
+fields_of : (L w f : ℕ) (b : List ℕ) → side_width L ≡ w → FeeField b (decoded (of_widths w f) b) L → RecordFields L b (decoded (of_widths w f) b)
 unfolding decoded
-fields_of L w b f =
-    let at = fields_read (ended_by w) b in
+fields_of L w f b q e =
+    let ws = of_widths w f in
     record {
-      plot_number = at 0 (omega arith);
-      start_i = ap (signed 2) (at 1 (omega arith));
-      start_j = ap (signed 2) (at 2 (omega arith));
-      sides =
-          eight (λ k. number (part b (8 + 2 * k) 2) ≡ side (decoded (ended_by w) b).outline k)
-          (at 3 (omega arith)) (at 4 (omega arith)) (at 5 (omega arith)) (at 6 (omega arith))
-          (at 7 (omega arith)) (at 8 (omega arith)) (at 9 (omega arith)) (at 10 (omega arith));
-      fee_row = f;
+      plot_number = fields_read ws b 0 (omega arith);
+      start_i = rw q (ap (signed w) (field_there ws b 1 4 w (omega arith) (omega arith) refl));
+      start_j = rw q (ap (signed w) (field_there ws b 2 (4 + w) w (omega arith) (omega arith) refl));
+      sides = rw q
+          (eight (λ k. number (part b (4 + w * (2 + k)) w) ≡ side (decoded ws b).outline k)
+          (field_there ws b 3 (4 + w * 2) w (omega arith) (omega arith) refl) (field_there ws b 4 (4 + w * 3) w (omega arith) (omega arith) refl)
+          (field_there ws b 5 (4 + w * 4) w (omega arith) (omega arith) refl) (field_there ws b 6 (4 + w * 5) w (omega arith) (omega arith) refl)
+          (field_there ws b 7 (4 + w * 6) w (omega arith) (omega arith) refl) (field_there ws b 8 (4 + w * 7) w (omega arith) (omega arith) refl)
+          (field_there ws b 9 (4 + w * 8) w (omega arith) (omega arith) refl) (field_there ws b 10 (4 + w * 9) w (omega arith) (omega arith) refl));
+      fee_row = e;
     }
 
 base_read : (b : List ℕ) → FeeField b (decoded base_layout b) 24
@@ -49,8 +57,16 @@ fee_read : (b : List ℕ) → FeeField b (decoded fee_layout b) 26
 unfolding decoded
 fee_read b = last_field (fields_read fee_layout b 11 (omega arith))
 
+county_read : (b : List ℕ) → FeeField b (decoded county_layout b) 46
+unfolding decoded
+county_read b = county_field (fields_read county_layout b 11 (omega arith))
+
 pub record_read : (L : ℕ) → IsRecordLength L → (b : List ℕ) → RecordFields L b (decoded (layout_of L) b)
-record_read = by_length (λ L ws. (b : List ℕ) → RecordFields L b (decoded ws b)) (λ b. fields_of 24 0 b (base_read b)) (λ b. fields_of 26 fee_width b (fee_read b))
+record_read =
+    by_length (λ L ws. (b : List ℕ) → RecordFields L b (decoded ws b))
+    (λ b. fields_of 24 2 0 b refl (base_read b))
+    (λ b. fields_of 26 2 fee_width b refl (fee_read b))
+    (λ b. fields_of 46 4 fee_width b refl (county_read b))
 
 -- the record of a plot number, a start, sides and a fee row
 record_of : ℕ → ℤ → ℤ → (ℕ → ℕ) → ℕ → Record
@@ -61,7 +77,8 @@ record_of v i j n f = record {
 }
 
 of_fields : (L : ℕ) (b : List ℕ) (r : Record) → RecordFields L b r
-    → record_of (number (part b 0 4)) (signed 2 (number (part b 4 2))) (signed 2 (number (part b 6 2))) (λ k. number (part b (8 + 2 * k) 2)) r.fee_row ≡ r
+    → let w = side_width L in
+    record_of (number (part b 0 4)) (signed w (number (part b 4 w))) (signed w (number (part b (4 + w) w))) (λ k. number (part b (4 + w * (2 + k)) w)) r.fee_row ≡ r
 unfolding record_of
 of_fields L b r f =
     rw (
@@ -81,6 +98,7 @@ of_fields L b r f =
 same_fee : {b : List ℕ} {r q : Record} {L : ℕ} → FeeField b r L → FeeField b q L → r.fee_row ≡ q.fee_row
 same_fee (no_field e) (no_field f) = e ∙ sym f
 same_fee (last_field e) (last_field f) = sym e ∙ f
+same_fee (county_field e) (county_field f) = sym e ∙ f
 
 -- and there is no other record of these bytes
 pub record_only : (L : ℕ) → IsRecordLength L → (b : List ℕ) (r : Record) → RecordFields L b r → r ≡ decoded (layout_of L) b

@@ -12,7 +12,7 @@ use Rattle.records.proofs.Rows.{mul_pred}
 use Rattle.sheet.specs.declared.Record.{Record}
 use Rattle.sheet.specs.declared.rows.Rows.{Rows}
 use Rattle.sheet.specs.declared.stored.Records.{Records}
-use Rattle.sheet.specs.Layout.{layout_of, decoded}
+use Rattle.sheet.specs.Layout.{layout_of, map_limit, decoded}
 use Rattle.sheet.specs.Order.{Ascending, next}
 use Rattle.sheet.specs.Merging.{without_head}
 use Rattle.sheet.specs.Sheets.{sheet_limit}
@@ -20,12 +20,13 @@ use Rattle.sheet.specs.Cases.{HasOctagon}
 use Rattle.sheet.specs.Rows.{plots_in, RowsIn, rows_left}
 use Rattle.sheet.proofs.Layouts.{shortest, tests_length}
 use Rattle.sheet.proofs.Plots.{length_plots, plots_more, plots_none}
-use Rattle.sheet.proofs.Merging.{ascending_from}
-use Rattle.sheet.proofs.Surveys.{surveyed_passed}
+use Rattle.sheet.proofs.Surveys.{surveyed_passed, have_octagons}
 
 -- what the records that the code passes on are known for
 pub rows_in : (x : Records) → RowsIn x.bytes.now x.rows
-rows_in x = record { within = x.within; short = x.short; ascending = (surveyed_passed tt tt 0 (plots_in x.bytes.now x.rows) x.surveyed).0 }
+rows_in x =
+    let L = x.rows.each.bytes in
+    record { within = x.within; short = x.short; ascending = have_octagons L (surveyed_passed (map_limit L) tt tt 0 (plots_in x.bytes.now x.rows) x.surveyed).0 }
 
 -- the first record
 abbrev pub head_of : List ℕ → Rows → Record
@@ -54,19 +55,6 @@ module _ (s : List ℕ) (x : Rows) where
       where
         go : {rs : List Record} → Ascending HasOctagon 0 (head_of s x ∷ rs) → HasOctagon (head_of s x)
         go (next l q g) = q
-
-    pub left_in : (taken : Bool) → (taken ≡ true → 0 < x.count) → RowsIn s (rows_left taken x)
-    left_in false f = k
-    left_in true f =
-        let m = mul_pred x.each.bytes x.count (f refl) in
-        record {
-          within = omega (arith, k.within);
-          short = omega (arith, k.short);
-          ascending = others (rw (rows_more (f refl)) at k.ascending);
-        }
-      where
-        others : {r : Record} {rs : List Record} → Ascending HasOctagon 0 (r ∷ rs) → Ascending HasOctagon 0 rs
-        others (next l q g) = ascending_from 0 (omega arith) g
 
   pub left_plots : (taken : Bool) → (taken ≡ true → 0 < x.count) → plots_in s (rows_left taken x) ≡ without_head taken (plots_in s x)
   left_plots false f = refl

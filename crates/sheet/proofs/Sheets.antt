@@ -12,14 +12,13 @@ use Rattle.records.specs.Parts.{part}
 use Rattle.records.proofs.Numbers.{drop_bytes}
 use Rattle.records.proofs.Fields.{packed_unpacked}
 use Rattle.sheet.specs.declared.trailer.Trailer.{Trailer}
-use Rattle.sheet.specs.Layout.{IsRecordLength, record_length, layout_of, Fits}
+use Rattle.sheet.specs.Layout.{IsRecordLength, layout_of, map_limit, Fits}
 use Rattle.sheet.specs.Trailer.{trailer_length, trailer_layout, letters, trailer_values, trailer, trailer_from, trailer_at}
 use Rattle.sheet.specs.Bytes.{TrailerOf}
 use Rattle.sheet.specs.Order.{All, Ascending}
 use Rattle.sheet.specs.Sheets.{sheet_limit, Sheet, plots_from, first, sheet_of, rows_bytes, records_bytes, sheet_bytes, sheet_length}
 use Rattle.sheet.specs.Checking.{parsed}
-use Rattle.sheet.specs.Cases.{GoodFrame, HasOctagon}
-use Rattle.sheet.proofs.Layouts.{record_is_length}
+use Rattle.sheet.specs.Cases.{GoodFrame, stated_limit, HasOctagonIn}
 use Rattle.sheet.proofs.Plots.{length_plots}
 use Rattle.sheet.proofs.TrailerBytes.{length_trailer, TrailerFits, trailer_fits, trailer_again}
 use Rattle.sheet.proofs.TrailerFields.{trailer_written}
@@ -83,17 +82,16 @@ module _ (L : ℕ) (l : IsRecordLength L) (z : Sheet) (d : List ℕ) (k : sheet_
         count = rw t;
       }
 
-  pub parsed_again : All (Fits (layout_of L)) z.plots → Ascending HasOctagon 0 z.plots → parsed (sheet_bytes L z ++ d) (sheet_length L z) ≡ accepted z
+  pub parsed_again : All (Fits (layout_of L)) z.plots → Ascending (HasOctagonIn (map_limit L)) 0 z.plots → parsed (sheet_bytes L z ++ d) (sheet_length L z) ≡ accepted z
   parsed_again a g =
       let s = sheet_bytes L z ++ d in
       let len = sheet_length L z in
       let t = trailer_read_again L l z d fits in
       let q : sheet_of s len (trailer_at s (len - trailer_length)) ≡ z = rw t (sheet_again L l z d a) in
-      parsed_sheet s len (inspected_when s len (length z.plots) frame_again (subst (λ (y : Sheet). Ascending HasOctagon 0 y.plots) (sym q) g)) ∙ ap accepted q
+      parsed_sheet s len (inspected_when s len (length z.plots) frame_again (subst (λ (y : Sheet). Ascending (HasOctagonIn (stated_limit s len)) 0 y.plots) (sym q) (rw t g))) ∙ ap accepted q
 
-pub trailer_of_again : (z : Sheet) (d : List ℕ) → sheet_length record_length z ≤ sheet_limit
-    → TrailerOf (length z.plots) (part (sheet_bytes record_length z ++ d) (sheet_length record_length z - trailer_length) trailer_length)
-trailer_of_again z d k = rw (trailer_part record_length record_is_length z d) (trailer_written (length z.plots) (omega arith))
+  pub trailer_of_again : TrailerOf L (length z.plots) (part (sheet_bytes L z ++ d) (sheet_length L z - trailer_length) trailer_length)
+  trailer_of_again = rw (trailer_part L l z d) (trailer_written L (length z.plots) l (omega arith))
 
 -- ---- and a sheet that is right has just the bytes of what it says
 

@@ -41,7 +41,7 @@ module _ (a b : Records) (u : List ℕ) where
     tally_counts = sym agree.1
 
     -- the new length, which is far below what fits
-    pub tally_few : a.rows.at + record_length * all ≤ 53 * sheet_limit
+    pub tally_few : a.rows.at + record_length * all ≤ 93 * sheet_limit
     tally_few = omega (arith, tally_counts, few_together a b, a.short)
 
     pub tally_length : a.rows.at + record_length * all + trailer_length ≡ written_length (union (said a) (said b))

@@ -11,9 +11,8 @@ use Rattle.records.specs.Numbers.{AreBytes, number, packed, unpacked}
 use Rattle.records.specs.Parts.{part}
 use Rattle.records.proofs.Numbers.{drop_bytes}
 use Rattle.records.proofs.Fields.{Fit, none, more, length_packed, unpacked_packed, packed_unpacked, unpacked_take}
-use Rattle.sheet.specs.Layout.{IsRecordLength, base, fee}
+use Rattle.sheet.specs.Layout.{IsRecordLength, base, fee, county}
 use Rattle.sheet.specs.Trailer.{trailer_length, trailer_layout, letters, trailer_values, trailer, marks, trailer_from, trailer_at}
-use Rattle.sheet.specs.Sheets.{sheet_limit}
 use Rattle.sheet.specs.Cases.{GoodMarks}
 
 pub length_trailer : (L n : ℕ) → length (trailer L n) ≡ trailer_length
@@ -26,9 +25,10 @@ pub record TrailerFits (L n : ℕ) : Type 0 where
   pub count : n < 256 ^ 4
   pub each : L < 256 ^ 2
 
-pub trailer_fits : (L n : ℕ) → IsRecordLength L → L * n ≤ sheet_limit → TrailerFits L n
-trailer_fits _ n base h = record { distance = omega arith; count = omega arith; each = omega arith }
-trailer_fits _ n fee h = record { distance = omega arith; count = omega arith; each = omega arith }
+pub trailer_fits : (L n : ℕ) → IsRecordLength L → L * n < 256 ^ 4 → TrailerFits L n
+trailer_fits _ n base h = record { distance = h; count = omega arith; each = omega arith }
+trailer_fits _ n fee h = record { distance = h; count = omega arith; each = omega arith }
+trailer_fits _ n county h = record { distance = h; count = omega arith; each = omega arith }
 
 trailer_values_fit : (L n : ℕ) → TrailerFits L n → Fit trailer_layout (trailer_values L n)
 trailer_values_fit L n f =
@@ -64,6 +64,7 @@ from L l y q = sym (unpacked_take marks_layout y 8 (omega arith)) ∙ ap (unpack
     again : (L : ℕ) → IsRecordLength L → unpacked marks_layout (marks L) ≡ L ∷ 0 ∷ letters ∷ []
     again _ base = refl
     again _ fee = refl
+    again _ county = refl
 
 -- the trailer's last three numbers, from the bytes that hold them
 last_three : (s : List ℕ) (t : ℕ) → let v = unpacked marks_layout (drop (t + 8) s) in

@@ -2,7 +2,7 @@
 use Rattle.std.specs.Prelude.{ℕ}
 
 -- the refusal numbers of this crate: the length; the trailer's marks; its distance; a plot number; no room; no such record; one plot number
--- for two records
+-- for two records; a plot that leaves the old map
 abbrev pub bad_length : ℕ
 bad_length = 8
 
@@ -23,3 +23,6 @@ no_record = 13
 
 abbrev pub two_records : ℕ
 two_records = 18
+
+abbrev pub off_old_map : ℕ
+off_old_map = 21

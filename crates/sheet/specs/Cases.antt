@@ -1,17 +1,17 @@
--- Each answer of `check`, `fetch` and `read` with what it says of the sheet, in the words of documents 01 and 02 (U2). proofs/CheckCases.antt,
+-- Each answer of `check`, `fetch` and `read` with what it says of the sheet, in the words of documents 01 and 02 (U2, U10). proofs/CheckCases.antt,
 -- proofs/FetchCases.antt and proofs/ReadCases.antt show that each is given exactly where its case holds. Assumes nothing.
 use Rattle.std.specs.Prelude.{◌≡◌, List, ◌∷◌, ℕ, ◌+◌, ◌-◌, ◌*◌, ◌≤◌, ◌<◌, length}
 use Rattle.octagon.specs.Octagon.{Octagon}
 use Rattle.octagon.specs.Outcome.{Outcome, accepted, refused, off_map}
-use Rattle.octagon.specs.Cells.{LeavesMap}
+use Rattle.octagon.specs.Cells.{Leaves}
 use Rattle.outline.specs.Closing.{Closes}
 use Rattle.outline.specs.Walk.{InsideWalk}
-use Rattle.outline.specs.Tracing.{traced, not_closed}
+use Rattle.outline.specs.Tracing.{traced, traced_in, not_closed}
 use Rattle.records.specs.Parts.{part}
 use Rattle.sheet.specs.declared.Record.{Record}
 use Rattle.sheet.specs.declared.trailer.Trailer.{Trailer}
 use Rattle.sheet.specs.Answers.{bad_length, bad_trailer, bad_distance, bad_number, no_record}
-use Rattle.sheet.specs.Layout.{IsRecordLength}
+use Rattle.sheet.specs.Layout.{IsRecordLength, map_limit}
 use Rattle.sheet.specs.Trailer.{trailer_length, letters, trailer_at}
 use Rattle.sheet.specs.Bytes.{RecordFields}
 use Rattle.sheet.specs.Order.{Ascending}
@@ -61,30 +61,37 @@ stated_plots s len = (sheet_of s len (trailer_at s (len - trailer_length))).plot
 abbrev pub stated_heading : List ℕ → ℕ → ℕ
 stated_heading s len = first len (trailer_at s (len - trailer_length)).distance
 
--- a record's outline has an octagon: it closes and lies on the map
+-- the limit of the map for the records of the length that the trailer names
+abbrev pub stated_limit : List ℕ → ℕ → ℕ
+stated_limit s len = map_limit (trailer_at s (len - trailer_length)).length
+
+-- a record's outline has an octagon: it closes and lies on the map; and on the map from -m to m
 abbrev pub HasOctagon : Record → Type 0
 HasOctagon r = (o : Octagon) × (traced r.outline ≡ accepted o)
 
+abbrev pub HasOctagonIn : ℕ → Record → Type 0
+HasOctagonIn m r = (o : Octagon) × (traced_in m r.outline ≡ accepted o)
+
 -- the first record that is refused, and its refusal: 11 when its plot number is 0 or not above the one before (`before` is that
--- one, or 0 at the first record), 3 when its outline does not close, 2 when some cell of the outline lies off the map
-pub data Faulty : ℕ → List Record → ℕ → Type 0 where
-  wrong_number : {before : ℕ} {r : Record} {rs : List Record} → r.number ≤ before → Faulty before (r ∷ rs) bad_number
-  open_outline : {before : ℕ} {r : Record} {rs : List Record} → before < r.number → ¬ (Closes r.outline) → Faulty before (r ∷ rs) not_closed
-  off_outline : {before : ℕ} {r : Record} {rs : List Record} → before < r.number → Closes r.outline → LeavesMap (InsideWalk r.outline)
-      → Faulty before (r ∷ rs) off_map
-  later : {before e : ℕ} {r : Record} {rs : List Record} → before < r.number → HasOctagon r → Faulty r.number rs e → Faulty before (r ∷ rs) e
+-- one, or 0 at the first record), 3 when its outline does not close, 2 when some cell of the outline lies off the map from -m to m
+pub data Faulty (m : ℕ) : ℕ → List Record → ℕ → Type 0 where
+  wrong_number : {before : ℕ} {r : Record} {rs : List Record} → r.number ≤ before → Faulty m before (r ∷ rs) bad_number
+  open_outline : {before : ℕ} {r : Record} {rs : List Record} → before < r.number → ¬ (Closes r.outline) → Faulty m before (r ∷ rs) not_closed
+  off_outline : {before : ℕ} {r : Record} {rs : List Record} → before < r.number → Closes r.outline → Leaves m (InsideWalk r.outline)
+      → Faulty m before (r ∷ rs) off_map
+  later : {before e : ℕ} {r : Record} {rs : List Record} → before < r.number → HasOctagonIn m r → Faulty m r.number rs e → Faulty m before (r ∷ rs) e
 
 -- ---- check a sheet
 
 -- "8 when the length is below 16, above 65,536 or above the buffer's";
--- "9 when letters, record length or zero bytes are wrong" ("Check 9 takes either record length");
+-- "9 when letters, record length or zero bytes are wrong" ("check 9 takes 24, 26 and 46");
 -- "10 when the distance is not 24 times the count or exceeds the length less 16" ("check 10 multiplies by the one named");
 -- "then per record: 11 when its number is 0 or not above the one before, 3, 2";
 -- "it answers the count"
 pub data CheckCase (s : List ℕ) (len : ℕ) : Outcome ℕ → Type 0 where
   frame_wrong : {e : ℕ} → FrameFault s len e → CheckCase s len (refused e)
-  faulty : {c e : ℕ} → GoodFrame s len c → Faulty 0 (stated_plots s len) e → CheckCase s len (refused e)
-  right : {c : ℕ} → GoodFrame s len c → Ascending HasOctagon 0 (stated_plots s len) → CheckCase s len (accepted c)
+  faulty : {c e : ℕ} → GoodFrame s len c → Faulty (stated_limit s len) 0 (stated_plots s len) e → CheckCase s len (refused e)
+  right : {c : ℕ} → GoodFrame s len c → Ascending (HasOctagonIn (stated_limit s len)) 0 (stated_plots s len) → CheckCase s len (accepted c)
 
 -- ---- fetch record k
 

@@ -2,11 +2,11 @@
 -- proofs/ReadCases.antt say exactly when each answer is given. Assumes nothing.
 use Rattle.std.specs.Prelude.{◌≡◌, Bool, cond, not, ◌||◌, List, [], ◌∷◌, ℕ, ◌-◌, ◌*◌, length, ltb, eqb}
 use Rattle.octagon.specs.Outcome.{Outcome, accepted, refused, then, left}
-use Rattle.outline.specs.Tracing.{traced}
+use Rattle.outline.specs.Tracing.{traced_in}
 use Rattle.sheet.specs.declared.Record.{Record}
 use Rattle.sheet.specs.declared.trailer.Trailer.{Trailer}
 use Rattle.sheet.specs.Answers.{bad_length, bad_trailer, bad_distance, bad_number}
-use Rattle.sheet.specs.Layout.{is_record_length}
+use Rattle.sheet.specs.Layout.{is_record_length, map_limit}
 use Rattle.sheet.specs.Trailer.{trailer_length, letters, trailer_at}
 use Rattle.sheet.specs.Order.{nth}
 use Rattle.sheet.specs.Sheets.{sheet_limit, Sheet, sheet_of}
@@ -35,28 +35,28 @@ framed s len = cond (is_bad_length s len) (refused bad_length) (stated len (trai
 
 -- ---- the records
 
--- a record's plot number, where the record before it has the number `before` (0 for the first): 11 when it is 0 or not above
--- that, then the outline's refusals
-unfoldable pub judged : ℕ → Record → Outcome ℕ
-judged before r = cond (ltb before r.number) (then (traced r.outline) (λ _. accepted r.number)) (refused bad_number)
+-- a record's plot number, where the map runs from -m to m and the record before it has the number `before` (0 for the first): 11 when it is
+-- 0 or not above that, then the outline's refusals
+unfoldable pub judged : ℕ → ℕ → Record → Outcome ℕ
+judged m before r = cond (ltb before r.number) (then (traced_in m r.outline) (λ _. accepted r.number)) (refused bad_number)
 
 -- each record in order, and then a
-unfoldable pub surveyed : {A : Type 0} → A → ℕ → List Record → Outcome A
-surveyed a before [] = accepted a
-surveyed a before (r ∷ rs) = then (judged before r) (λ v. surveyed a v rs)
+unfoldable pub surveyed : {A : Type 0} → ℕ → A → ℕ → List Record → Outcome A
+surveyed m a before [] = accepted a
+surveyed m a before (r ∷ rs) = then (judged m before r) (λ v. surveyed m a v rs)
 
 -- all of them from the first on, with no answer, and that none is refused
-abbrev pub all_judged : List Record → Outcome (Unit {0})
-all_judged rs = surveyed tt 0 rs
+abbrev pub all_judged : ℕ → List Record → Outcome (Unit {0})
+all_judged m rs = surveyed m tt 0 rs
 
-abbrev pub Surveyed : List Record → Type 0
-Surveyed rs = all_judged rs ≡ accepted tt
+abbrev pub Surveyed : ℕ → List Record → Type 0
+Surveyed m rs = all_judged m rs ≡ accepted tt
 
 -- ---- the sheet
 
 -- its trailer, where the frame and every record are right
 unfoldable pub inspected : List ℕ → ℕ → Outcome Trailer
-inspected s len = then (framed s len) (λ z. surveyed z 0 (sheet_of s len z).plots)
+inspected s len = then (framed s len) (λ z. surveyed (map_limit z.length) z 0 (sheet_of s len z).plots)
 
 -- what it then says
 unfoldable pub parsed : List ℕ → ℕ → Outcome Sheet

@@ -24,7 +24,7 @@ union y z = sheet_under y.heading (merged y.plots z.plots)
 
 -- the two as one sheet in a buffer u: 18, then 12 by the new length
 unfoldable pub united : List ℕ → Sheet → Sheet → Outcome Sheet
-united u y z = cond (conflict y.plots z.plots) (refused two_records) (roomed u (union y z))
+united u y z = cond (conflict y.plots z.plots) (refused two_records) (roomed record_length u (union y z))
 
 -- the sheet that a join makes of the first m bytes of s and the first n of t: the first sheet's refusals, the second's, 18 and 12
 unfoldable pub joining : List ℕ → ℕ → List ℕ → ℕ → List ℕ → Outcome Sheet
@@ -39,7 +39,7 @@ unfoldable pub after_join : List ℕ → ℕ → List ℕ → ℕ → List ℕ �
 after_join s m t n u = left u (joining s m t n u) (written_over u)
 
 -- how many records a sheet of c and one of d have together, one that is in both counted once, and how long the sheet of them is under the
--- first's heading: every record has 26 bytes
+-- first's heading: every record has 46 bytes
 abbrev pub joined_count : List ℕ → ℕ → List ℕ → ℕ → ℕ → ℕ → ℕ
 joined_count s m t n c d = c + d - in_both (stated_plots s m) (stated_plots t n)
 
@@ -56,7 +56,7 @@ pub record JoinedSheet (s : List ℕ) (m : ℕ) (t : List ℕ) (n : ℕ) (u u' :
   -- its records are those of either sheet, by rising number
   pub records : (q : Record) → IsFetched u' l q ↔ (IsFetched s m q ⊎ IsFetched t n q)
   pub rising : (k : ℕ) (a b : Record) → fetched u' l k ≡ accepted a → fetched u' l (suc k) ≡ accepted b → a.number < b.number
-  pub trailer_is : TrailerOf (joined_count s m t n c d) (part u' (l - trailer_length) trailer_length)
+  pub trailer_is : TrailerOf record_length (joined_count s m t n c d) (part u' (l - trailer_length) trailer_length)
   -- "under the first sheet's heading"; "Bytes of the third past the new length keep their values"
   pub heading : take (stated_heading s m) u' ≡ take (stated_heading s m) s
   pub past : drop l u' ≡ drop l u

@@ -1,6 +1,7 @@
 -- Layouts: the widths of a record's fields in bytes, the bytes of a record in a layout, and the record of such bytes. Assumes nothing.
-use Rattle.std.specs.Prelude.{ℕ, ◌+◌, ◌/◌, ◌^◌, ◌≤◌, ◌<◌, ◌≡◌, Bool, cond, ◌||◌, List, [], ◌∷◌, length, get_or, replicate, eqb}
+use Rattle.std.specs.Prelude.{ℕ, ◌+◌, ◌/◌, ◌^◌, ◌<◌, Bool, cond, ◌||◌, List, [], ◌∷◌, get_or, replicate, eqb}
 use Rattle.std.specs.Int.Signed.{mag}
+use Rattle.octagon.specs.Cells.{limit}
 use Rattle.outline.specs.declared.Outline.{Outline}
 use Rattle.outline.specs.Walk.{side}
 use Rattle.records.specs.Numbers.{signed, twos, packed, unpacked}
@@ -20,39 +21,60 @@ number_width = 4
 abbrev pub fee_width : ℕ
 fee_width = 2
 
--- document 01: "plot number (unsigned 32), i and j (signed 16 each), n0 to n7 (unsigned 16 each)"; and a fee row of w bytes
-abbrev pub ended_by : ℕ → List ℕ
-ended_by w = number_width ∷ 2 ∷ 2 ∷ 2 ∷ 2 ∷ 2 ∷ 2 ∷ 2 ∷ 2 ∷ 2 ∷ 2 ∷ w ∷ []
+-- plot number; i and j, and n0 to n7, of w bytes each; and a fee row of f bytes
+abbrev pub of_widths : ℕ → ℕ → List ℕ
+of_widths w f = number_width ∷ w ∷ w ∷ w ∷ w ∷ w ∷ w ∷ w ∷ w ∷ w ∷ w ∷ f ∷ []
 
--- document 01's record, which has no fee row, and how long it is, in bytes
+-- document 01's record, "plot number (unsigned 32), i and j (signed 16 each), n0 to n7 (unsigned 16 each)", which has no fee row, and how long
+-- it is, in bytes
 abbrev pub base_layout : List ℕ
-base_layout = ended_by 0
+base_layout = of_widths 2 0
 
 abbrev pub base_length : ℕ
 base_length = 24
 
 -- U2: "each record ends with an unsigned 16-bit fee row", and how long such a record is
 abbrev pub fee_layout : List ℕ
-fee_layout = ended_by fee_width
+fee_layout = of_widths 2 fee_width
 
 abbrev pub fee_length : ℕ
 fee_length = 26
+
+-- U10: "New records are 46 bytes: plot number, 32-bit i and j, eight 32-bit sides, fee row"
+abbrev pub county_layout : List ℕ
+county_layout = of_widths 4 fee_width
+
+abbrev pub county_length : ℕ
+county_length = 46
 
 -- the lengths that records may have, and the test of it
 pub data IsRecordLength : ℕ → Type 0 where
   base : IsRecordLength base_length
   fee : IsRecordLength fee_length
+  county : IsRecordLength county_length
 
 abbrev pub is_record_length : ℕ → Bool
-is_record_length L = eqb L base_length || eqb L fee_length
+is_record_length L = eqb L base_length || eqb L fee_length || eqb L county_length
 
 -- the length of records that are written
 abbrev pub record_length : ℕ
-record_length = fee_length
+record_length = county_length
 
 -- the layout of records of L bytes. Where there are no records of this length, every field is lacking.
 unfoldable pub layout_of : ℕ → List ℕ
-layout_of L = cond (eqb L base_length) base_layout (cond (eqb L fee_length) fee_layout (replicate field_count 0))
+layout_of L =
+    cond (eqb L base_length) base_layout
+    (cond (eqb L fee_length) fee_layout (cond (eqb L county_length) county_layout (replicate field_count 0)))
+
+-- ---- the map of a record
+
+-- the old map's limit, in cells from its middle
+abbrev pub old_limit : ℕ
+old_limit = 16000
+
+-- U10: "Sheets of 24 and 26 still read under their old limits": the limit of the map for records of L bytes
+unfoldable pub map_limit : ℕ → ℕ
+map_limit L = cond (eqb L county_length) limit old_limit
 
 -- ---- a record in a layout
 
@@ -101,13 +123,3 @@ pub record Fits (ws : List ℕ) (r : Record) : Type 0 where
 pub record Sized (r : Record) : Type 0 where
   pub number_fits : r.number < 256 ^ number_width
   pub fee_fits : r.fee_row < 256 ^ fee_width
-
--- the signed number that n is in w bytes fits u bytes, and both are at most 4
-abbrev pub Resizable : ℕ → ℕ → ℕ → Type 0
-Resizable w u n = (w ≤ 4) × (n < 256 ^ w) × (u ≤ 4) × (mag (signed w n) < 256 ^ u / 2)
-
--- v are the numbers in the fields of the layout ws, of which i and j fit those of the layout us
-pub record Resizes (ws us v : List ℕ) : Type 0 where
-  pub all_fields : length v ≡ field_count
-  pub i_resizes : Resizable (get_or ws 1 0) (get_or us 1 0) (get_or v 1 0)
-  pub j_resizes : Resizable (get_or ws 2 0) (get_or us 2 0) (get_or v 2 0)

@@ -1,5 +1,6 @@
 -- What `start` and `insert` answer and leave in the buffer: definitions that compute, and for each call what documents 01 and 02 (U2) say
--- of an accepted one (`StartedSheet`, `GrownSheet`), which proofs/Starts.antt and proofs/Grown.antt show of them. Assumes nothing.
+-- of an accepted one (`StartedSheet`, `GrownSheet`), which proofs/Starts.antt and proofs/Grown.antt show of them; and how a record stands
+-- in a sheet that is rewritten at 46 bytes a record (`Rewritten`), of which proofs/KeptValues.antt speaks. Assumes nothing.
 use Rattle.std.specs.Prelude.{◌≡◌, Bool, cond, ◌||◌, List, [], ℕ, suc, ◌+◌, ◌-◌, ◌*◌, ◌≤◌, ◌<◌, length, take, drop, ltb, eqb}
 use Rattle.octagon.specs.Outcome.{Outcome, accepted, refused, then, left}
 use Rattle.outline.specs.Tracing.{traced}
@@ -7,16 +8,20 @@ use Rattle.records.specs.Parts.{part, splice}
 use Rattle.sheet.specs.declared.Record.{Record}
 use Rattle.sheet.specs.Answers.{bad_length, bad_number, no_room}
 use Rattle.sheet.specs.Layout.{record_length}
-use Rattle.sheet.specs.Trailer.{trailer_length}
-use Rattle.sheet.specs.Bytes.{TrailerOf}
+use Rattle.sheet.specs.Trailer.{trailer_length, trailer_at}
+use Rattle.sheet.specs.Bytes.{TrailerOf, RecordFields}
 use Rattle.sheet.specs.Order.{present, put_in_order}
 use Rattle.sheet.specs.Sheets.{sheet_limit, Sheet, sheet_bytes, sheet_length}
 use Rattle.sheet.specs.Checking.{parsed, checked, fetched}
 use Rattle.sheet.specs.Cases.{stated_heading}
 
--- a buffer s with a sheet written at its start: what follows the sheet stays
-unfoldable pub written_over : List ℕ → Sheet → List ℕ
-written_over s z = splice s 0 (sheet_bytes record_length z)
+-- a buffer s with a sheet written at its start, whose records have L bytes each: what follows the sheet stays
+unfoldable pub laid_over : ℕ → List ℕ → Sheet → List ℕ
+laid_over L s z = splice s 0 (sheet_bytes L z)
+
+-- with those that are written
+abbrev pub written_over : List ℕ → Sheet → List ℕ
+written_over = laid_over record_length
 
 -- how long it then is
 abbrev pub written_length : Sheet → ℕ
@@ -26,9 +31,9 @@ written_length z = sheet_length record_length z
 abbrev pub has_no_room : List ℕ → ℕ → Bool
 has_no_room s n = ltb (length s) n || ltb sheet_limit n
 
--- a sheet that is to be written in s: 12 by the new length
-abbrev pub roomed : List ℕ → Sheet → Outcome Sheet
-roomed s z = cond (has_no_room s (written_length z)) (refused no_room) (accepted z)
+-- a sheet that is to be written in s with records of L bytes: 12 by the new length
+abbrev pub roomed : ℕ → List ℕ → Sheet → Outcome Sheet
+roomed L s z = cond (has_no_room s (sheet_length L z)) (refused no_room) (accepted z)
 
 -- ---- start a sheet
 
@@ -48,7 +53,7 @@ pub record StartedSheet (s s' : List ℕ) (h n : ℕ) : Type 0 where
   pub length_is : n ≡ h + trailer_length
   pub checks : checked s' n ≡ accepted 0
   -- only the trailer's bytes are written, after the heading, "with distance and count 0"
-  pub trailer_is : TrailerOf 0 (part s' h trailer_length)
+  pub trailer_is : TrailerOf record_length 0 (part s' h trailer_length)
   pub heading : take h s' ≡ take h s
   pub past : drop n s' ≡ drop n s
   pub same_length : length s' ≡ length s
@@ -65,7 +70,7 @@ is_bad_number v rs = eqb v 0 || present v rs
 
 -- the sheet z with r, where r may go in: 11, then 12 by the new length
 unfoldable pub admitted : List ℕ → Record → Sheet → Outcome Sheet
-admitted s r z = cond (is_bad_number r.number z.plots) (refused bad_number) (roomed s (with_plot r z))
+admitted s r z = cond (is_bad_number r.number z.plots) (refused bad_number) (roomed record_length s (with_plot r z))
 
 -- the sheet that an insert makes: the outline's refusals, the check's, 11 and 12
 unfoldable pub insertion : List ℕ → ℕ → Record → Outcome Sheet
@@ -79,7 +84,7 @@ inserted s len r = then (insertion s len r) (λ z. accepted (written_length z))
 unfoldable pub after_insert : List ℕ → ℕ → Record → List ℕ
 after_insert s len r = left s (insertion s len r) (written_over s)
 
--- how long a sheet of len bytes and c records, of either length, is with one more: every record has 26 bytes
+-- how long a sheet of len bytes and c records, of any length, is with one more: every record has 46 bytes
 abbrev pub grown_length : List ℕ → ℕ → ℕ → ℕ
 grown_length s len c = stated_heading s len + record_length * (c + 1) + trailer_length
 
@@ -95,8 +100,20 @@ pub record GrownSheet (s s' : List ℕ) (len c : ℕ) (r : Record) (n : ℕ) : T
   pub here : fetched s' n at ≡ accepted r
   pub after : (k : ℕ) → at ≤ k → fetched s' n (suc k) ≡ fetched s len k
   -- "with the trailer brought up to date"
-  pub trailer_is : TrailerOf (c + 1) (part s' (n - trailer_length) trailer_length)
+  pub trailer_is : TrailerOf record_length (c + 1) (part s' (n - trailer_length) trailer_length)
   -- heading and bytes past the new length keep their values
   pub heading : take (stated_heading s len) s' ≡ take (stated_heading s len) s
   pub past : drop n s' ≡ drop n s
   pub same_length : length s' ≡ length s
+
+-- ---- a record that a call keeps
+
+-- the record q is one of those of the sheet in the first n bytes of v, whose trailer names 46: its fields stand in the 46 bytes at its place
+pub record Rewritten (v : List ℕ) (n : ℕ) (q : Record) : Type 0 where
+  pub count : ℕ
+  pub counted : checked v n ≡ accepted count
+  pub names : (trailer_at v (n - trailer_length)).length ≡ record_length
+  pub index : ℕ
+  pub below : index < count
+  pub fetch : fetched v n index ≡ accepted q
+  pub fields : RecordFields record_length (part v (n - trailer_length - record_length * count + record_length * index) record_length) q

@@ -2,6 +2,7 @@
 ghost use Rattle.std.specs.Prelude.{◌≡◌, ◌+◌, ◌*◌, ◌≤◌, length, IfOk};
 ghost use Rattle.octagon.specs.Outcome.{accepted, «then»};
 ghost use Rattle.octagon.specs.Answers.{outcome};
+ghost use Rattle.sheet.specs.Layout.{map_limit};
 ghost use Rattle.sheet.specs.Rows.{plots_in};
 ghost use Rattle.sheet.specs.Checking.{judged, all_judged, parsed};
 ghost use Rattle.sheet.specs.Stored.{said};
@@ -13,22 +14,25 @@ use crate::stored::Records;
 use crate::trailer::frame;
 use octagon::Refusal;
 
-// The plot number of a record. Refuses one that is not above `before`, then the outline's refusals.
+// The plot number of a record. Refuses one that is not above `before`, then the outline's refusals, on the map of the record's length.
 fn judge(r: StoredRecord, before: u32) -> Result<u32, Refusal>
-    ensures { outcome result ≡ judged before (plot_of r.entry) }
+    ensures { outcome result ≡ judged (map_limit r.entry.each.bytes) before (plot_of r.entry) }
 {
-    let number = r.number();
-    if number <= before {
+    let p = r.plot();
+    if p.number <= before {
         return Err(Refusal::BadNumber);
     }
-    outline::to_octagon(r.outline())?;
-    Ok(number)
+    let a = outline::to_octagon(p.outline)?;
+    if !r.each.is_on_map(a) {
+        return Err(Refusal::OffMap);
+    }
+    Ok(p.number)
 }
 
-// Checks the records x in order.
+// Checks the records x in order, on the map of their length.
 fn survey(s: &[u8], x: Rows) -> Result<(), Refusal>
     requires { x.at + x.each.bytes * x.count ≤ length s.now }
-    ensures { outcome result ≡ all_judged (plots_in s.now x) }
+    ensures { outcome result ≡ all_judged (map_limit x.each.bytes) (plots_in s.now x) }
 {
     let mut before = 0;
     for k in 0..x.count {

@@ -1,13 +1,17 @@
 // A record from and to its bytes, in the layout of its length.
-ghost use Rattle.std.specs.Prelude.{◌≡◌, ◌+◌, ◌^◌, ◌≤◌, ◌<◌, length, get_or};
+//
+// The compiler reads and writes a field by one load or store where it knows the field's width. So one of the county's records is read apart
+// from a shorter one: then every width but the fee row's is known.
+ghost use Rattle.std.specs.Prelude.{◌≡◌, true, ◌+◌, ◌^◌, ◌≤◌, ◌<◌, length, drop, get_or};
+ghost use Rattle.records.specs.Numbers.{total_width, narrow};
 ghost use Rattle.records.specs.Parts.{splice};
-ghost use Rattle.sheet.specs.Layout.{layout_of, outline_from, encoded, Fits};
+ghost use Rattle.sheet.specs.Layout.{fee_width, layout_of, outline_from, encoded, decoded, Fits};
 ghost use Rattle.sheet.specs.Merging.{same_record};
 
-use crate::Record;
-use crate::layout::{FIELDS, RecordLength};
-use crate::numbers::{pack, read_number, unpack};
+use crate::layout::{COUNTY_LAYOUT, FIELDS, RecordLength};
+use crate::numbers::{pack, read_four, unpack};
 use crate::signed::{to_signed, to_twos};
+use crate::{COUNTY_RECORD, Record};
 use outline::Outline;
 
 // The outline of the numbers in a record's fields.
@@ -30,6 +34,24 @@ fn outline_of(v: &[u32; FIELDS], widths: &[usize; FIELDS]) -> Outline
     }
 }
 
+// The record in fields of these widths, from an index on. Compiled into each call, as is `put_record`, so that the widths are known there.
+#[inline(always)]
+fn read_record(s: &[u8], at: usize, widths: &[usize; FIELDS]) -> Record
+    requires inside { at + total_width widths.now ≤ length s.now }
+    requires narrow_widths { (narrow widths.now ≡ true) × (get_or widths.now 11 0 ≤ fee_width) }
+    ensures { result ≡ decoded widths.now (drop at s.now) }
+{
+    let v = unpack(s, at, widths);
+    let number = v[0];
+    let outline = outline_of(&v, widths);
+    let fee_row = v[11] as u16;
+    Record {
+        number,
+        outline,
+        fee_row,
+    }
+}
+
 // A record in the buffer that it stands in: its index, and its length.
 #[derive(Clone, Copy)]
 pub struct StoredRecord<'a> {
@@ -42,37 +64,23 @@ pub struct StoredRecord<'a> {
 impl<'a> StoredRecord<'a> {
     ghost use Rattle.sheet.specs.StoredRecords.{plot_of};
 
-    // Its plot number.
+    // Its plot number, which comes first in every layout, in four bytes.
     pub fn number(self) -> u32
         ensures { result ≡ (plot_of self.entry).number }
     {
-        let widths = self.each.widths();
-        read_number(self.bytes, self.at, widths[0])
+        read_four(self.bytes, self.at)
     }
 
-    // Its outline. The check alone calls it, on every record, so that it is compiled into that loop.
-    pub fn outline(self) -> Outline
-        ensures { result ≡ (plot_of self.entry).outline }
-    {
-        let widths = self.each.widths();
-        let v = unpack(self.bytes, self.at, &widths);
-        outline_of(&v, &widths)
-    }
-
-    // All of it. Compiled into each call, as is `put_record`: those that copy a record then move its bytes.
+    // All of it. Compiled into each call: those that copy a record then take each field from place to place.
     #[inline(always)]
     pub fn plot(self) -> Record
         ensures { result ≡ plot_of self.entry }
     {
-        let widths = self.each.widths();
-        let v = unpack(self.bytes, self.at, &widths);
-        let number = v[0];
-        let outline = outline_of(&v, &widths);
-        let fee_row = v[11] as u16;
-        Record {
-            number,
-            outline,
-            fee_row,
+        if self.each.bytes == COUNTY_RECORD {
+            read_record(self.bytes, self.at, &COUNTY_LAYOUT)
+        } else {
+            let widths = self.each.short_widths();
+            read_record(self.bytes, self.at, &widths)
         }
     }
 

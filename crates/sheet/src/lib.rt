@@ -4,9 +4,10 @@
 // record and specs/Trailer.antt those of a trailer, specs/Bytes.antt the place of each field; specs/Checking.antt what `check`, `fetch`
 // and `read` answer, specs/Cases.antt when each of these answers is given; specs/Writing.antt what `start` and `insert` answer and
 // leave, specs/WritingCases.antt when each of their answers is given; specs/Merging.antt the records of two sheets together,
-// specs/Joining.antt what `join` answers and leaves, specs/JoiningCases.antt when each of its answers is given. specs/Rows.antt,
-// specs/Stored.antt and specs/StoredRecords.antt have the records as the code passes them on: where they stand, with the bytes of a sheet
-// that was checked, and one by one.
+// specs/Joining.antt what `join` answers and leaves, specs/JoiningCases.antt when each of its answers is given; specs/Converting.antt and
+// specs/ConvertingCases.antt the same of `convert`; specs/OldSheets.antt what `check`, `fetch` and `read` answer by the rules of the
+// shorter records alone. specs/Rows.antt, specs/Stored.antt and specs/StoredRecords.antt have the records as the code passes them on:
+// where they stand, with the bytes of a sheet that was checked, and one by one.
 #![tactic(auto)]
 
 ghost use Rattle.std.specs.Prelude.{◌≡◌};
@@ -14,11 +15,13 @@ ghost use Rattle.octagon.specs.Answers.{outcome};
 ghost use Rattle.sheet.specs.Checking.{checked, fetched, read as read_of};
 ghost use Rattle.sheet.specs.Writing.{started, after_start, inserted, after_insert};
 ghost use Rattle.sheet.specs.Joining.{joined, after_join};
+ghost use Rattle.sheet.specs.Converting.{converted, after_convert};
 
 use octagon::Refusal;
 use outline::Outline;
 
 mod checking;
+mod converting;
 mod copying;
 mod encoding;
 mod inserting;
@@ -44,17 +47,24 @@ pub const LIMIT: usize = 65536;
 
 pub const TRAILER: usize = 16;
 
-// The lengths of records in bytes: document 01's, which lack the fee row, and those that have it. All that is written has RECORD.
+// The lengths of records in bytes: document 01's, which lack the fee row, those that have it, and the county's, with i, j and each side
+// in four bytes. All that is written has RECORD, but for the copies of `convert`, which have FEE_RECORD.
 pub const BASE_RECORD: usize = 24;
 
 pub const FEE_RECORD: usize = 26;
 
-pub const RECORD: usize = FEE_RECORD;
+pub const COUNTY_RECORD: usize = 46;
+
+pub const RECORD: usize = COUNTY_RECORD;
+
+// The limit of the old map, on which the shorter records are read, in cells from its middle.
+pub const OLD_LIMIT: u32 = 16000;
 
 // The calls take a buffer and the length of the sheet in it, as C lends them: 8 refuses a length above the buffer.
 
 // How many records the sheet in the first `len` bytes has. Refuses a wrong length, wrong marks in the trailer, a wrong distance,
-// and then for each record in order a wrong number and the refusals of its outline.
+// and then for each record in order a wrong number and the refusals of its outline: on the old map, where the record is shorter than
+// COUNTY_RECORD.
 pub fn check(sheet: &[u8], len: usize) -> Result<u32, Refusal>
     ensures { outcome result ≡ checked sheet.now len }
 {
@@ -127,4 +137,14 @@ pub fn join(
     let a = checking::inspect(first, first_len)?;
     let b = checking::inspect(second, second_len)?;
     joining::join_records(a, b, third)
+}
+
+// Copies the sheet in the first `len` bytes of `first` into `second` with FEE_RECORD bytes a record, under its heading, and answers the new
+// length. The refusals of the check, then a plot that leaves the old map, then a sheet that has no room.
+pub fn convert(first: &[u8], len: usize, second: &mut [u8]) -> Result<usize, Refusal>
+    ensures result_value { (outcome result ≡ converted first.now len second.old) × (second.new ≡ after_convert first.now len second.old) }
+    ensures only_read { first.exit.now ≡ first.entry.now }
+{
+    let x = checking::inspect(first, len)?;
+    converting::convert_records(x, second)
 }

@@ -3,11 +3,35 @@ ghost use Rattle.std.specs.Prelude.{◌≡◌, true, ℕ, ◌+◌, ◌^◌, ◌�
 ghost use Rattle.records.specs.Numbers.{number, bytes, total_width, packed, unpacked, narrow};
 ghost use Rattle.records.specs.Parts.{part, splice};
 
+// The numbers in two and in four bytes, with no loop: the compiler makes one load of each.
+fn read_two(s: &[u8], at: usize) -> u32
+    requires { at + 2 ≤ length s.now }
+    ensures { result ≡ number (part s.now at 2) }
+{
+    u32::from(s[at]) + 256 * u32::from(s[at + 1])
+}
+
+pub fn read_four(s: &[u8], at: usize) -> u32
+    requires { at + 4 ≤ length s.now }
+    ensures { result ≡ number (part s.now at 4) }
+{
+    u32::from(s[at])
+        + 256 * u32::from(s[at + 1])
+        + 65536 * u32::from(s[at + 2])
+        + 16777216 * u32::from(s[at + 3])
+}
+
 // The number in `width` bytes.
 pub fn read_number(s: &[u8], at: usize, width: usize) -> u32
     requires { (width ≤ 4) × (at + width ≤ length s.now) }
     ensures { result ≡ number (part s.now at width) }
 {
+    if width == 4 {
+        return read_four(s, at);
+    }
+    if width == 2 {
+        return read_two(s, at);
+    }
     let mut v = 0;
     for i in (0..width).rev() {
         v = v * 256 + u32::from(s[at + i]);
@@ -15,11 +39,38 @@ pub fn read_number(s: &[u8], at: usize, width: usize) -> u32
     v
 }
 
+// Write the lowest two and the lowest four bytes of a number: one store each.
+fn put_two(s: &mut [u8], at: usize, v: u32)
+    requires { at + 2 ≤ length s.old }
+    ensures { s.new ≡ splice s.old at (bytes 2 v) }
+{
+    s[at] = (v % 256) as u8;
+    s[at + 1] = (v / 256 % 256) as u8;
+}
+
+fn put_four(s: &mut [u8], at: usize, v: u32)
+    requires { at + 4 ≤ length s.old }
+    ensures { s.new ≡ splice s.old at (bytes 4 v) }
+{
+    s[at] = (v % 256) as u8;
+    s[at + 1] = (v / 256 % 256) as u8;
+    s[at + 2] = (v / 65536 % 256) as u8;
+    s[at + 3] = (v / 16777216 % 256) as u8;
+}
+
 // Writes the lowest `width` bytes of a number.
 pub fn put_number(s: &mut [u8], at: usize, width: usize, v: u32)
     requires { at + width ≤ length s.old }
     ensures { s.new ≡ splice s.old at (bytes width v) }
 {
+    if width == 4 {
+        put_four(s, at, v);
+        return;
+    }
+    if width == 2 {
+        put_two(s, at, v);
+        return;
+    }
     let mut rest = v;
     for i in 0..width {
         s[at + i] = (rest % 256) as u8;

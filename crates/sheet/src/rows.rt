@@ -26,7 +26,8 @@ impl Rows {
     // Record k of those in the buffer s.
     pub fn record(self, s: &[u8], k: usize) -> StoredRecord<'_>
         requires { (k < self.count) × (self.at + self.each.bytes * self.count ≤ length s.now) }
-        ensures { plot_of result ≡ decoded (layout_of self.each.bytes) (part s.now (self.at + self.each.bytes * k) self.each.bytes) }
+        ensures plot { plot_of result ≡ decoded (layout_of self.each.bytes) (part s.now (self.at + self.each.bytes * k) self.each.bytes) }
+        ensures each { result.each.bytes ≡ self.each.bytes }
     {
         StoredRecord {
             bytes: s,
@@ -51,7 +52,7 @@ pub fn all_rows(len: usize, z: Trailer) -> Rows
 }
 
 // Moves `count` bytes from index `from` on up to index `to`, the last byte first. The compiler makes one call of `memmove` of it, which it
-// does not of `copy_within`: with that an insert before 2,519 records of 26 takes 11.4 in place of 10.9 microseconds.
+// does not of `copy_within`.
 fn move_bytes(s: &mut [u8], from: usize, count: usize, to: usize)
     requires { (from ≤ to) × (to + count ≤ length s.old) }
     ensures { s.new ≡ splice s.old to (part s.old from count) }

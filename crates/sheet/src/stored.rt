@@ -1,20 +1,21 @@
 // The records of a sheet that was checked, with the bytes that they stand in: what is worked out of them need not ask for that check.
 ghost use Rattle.std.specs.Prelude.{◌+◌, ◌*◌, ◌≤◌, length};
 ghost use Rattle.sheet.specs.Sheets.{sheet_limit};
+ghost use Rattle.sheet.specs.Layout.{map_limit};
 ghost use Rattle.sheet.specs.Rows.{plots_in};
 ghost use Rattle.sheet.specs.Checking.{Surveyed};
 
 use crate::encoding::StoredRecord;
 use crate::rows::Rows;
 
-// Records, or those that are left of them: they lie in the buffer and within the limit, and a survey of them refuses none.
+// Records, or those that are left of them: they lie in the buffer and within the limit, and a survey of them, on the map of their length, refuses none.
 #[derive(Clone, Copy)]
 pub struct Records<'a> {
     pub bytes: &'a [u8],
     pub rows: Rows,
     pub ghost within: { rows.at + rows.each.bytes * rows.count ≤ length bytes.now },
     pub ghost short: { rows.at + rows.each.bytes * rows.count ≤ sheet_limit },
-    pub ghost surveyed: { Surveyed (plots_in bytes.now rows) },
+    pub ghost surveyed: { Surveyed (map_limit rows.each.bytes) (plots_in bytes.now rows) },
 }
 
 impl<'a> Records<'a> {

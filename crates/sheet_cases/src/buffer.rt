@@ -46,7 +46,8 @@ impl<'a> Buffer<'a> {
 
     // Puts bytes at an index, as far as there is room.
     pub fn put(&mut self, at: usize, bytes: &[u8]) {
-        for (to, byte) in self.bytes.iter_mut().skip(at).zip(bytes) {
+        let start = at.min(self.bytes.len());
+        for (to, byte) in self.bytes[start..].iter_mut().zip(bytes) {
             *to = *byte;
         }
     }
@@ -63,7 +64,7 @@ impl<'a> Buffer<'a> {
     }
 
     // The same, with the length written out too.
-    fn tell(&mut self, rt: &impl Print, length: Result<usize, Refusal>) -> io::Result<()> {
+    pub fn tell(&mut self, rt: &impl Print, length: Result<usize, Refusal>) -> io::Result<()> {
         if let Ok(len) = length {
             println!(rt; "length {len}")?;
         }

@@ -1,12 +1,16 @@
-// Sheets of 24 and of 26 bytes a record, written byte by byte, that hold a plot whose farthest cell is 16,000 cells from the middle of the
-// map, or 16,001, to the east, the north, the west and the south. A plot near the middle is put into each, and the far plot into a sheet of
-// one near the middle.
+// Sheets of every format, written byte by byte, that hold a plot up to an edge of the map on which its record is read, or one cell past it:
+// 16,000 and 16,001 cells from the middle for records of 24 and of 26, 2,000,000 and 2,000,001 for those of 46, to the east, the north, the
+// west and the south. A plot near the middle is put into each, and the far plot into a sheet of one near the middle; what is left is
+// converted. Of records of 46, the plots at 16,000 and 16,001 too, of which no more than the first can be converted.
 use crate::buffer::{Buffer, PAST};
 use crate::format::Format;
-use crate::plots::{fee_row, plot, wide};
+use crate::plots::{broad, plot, wide};
 use crate::words::say_digest;
 use outline::Outline;
 use std::io;
+
+// The room for a sheet of three plots of any format.
+const ROOM: usize = 160;
 
 // A plot by its number and its outline.
 #[derive(Clone, Copy)]
@@ -15,7 +19,7 @@ struct Plot {
     outline: Outline,
 }
 
-// The plot that lies near the middle.
+// The plot near the middle that stands before the far one.
 fn near() -> Plot {
     Plot {
         number: 43,
@@ -23,72 +27,69 @@ fn near() -> Plot {
     }
 }
 
+// The plot near the middle that is put into each sheet.
+fn late() -> Plot {
+    Plot {
+        number: 50,
+        outline: plot(50),
+    }
+}
+
 impl Buffer<'_> {
-    // Puts the k-th record, counted from 0, of a sheet with no heading.
-    fn put_record(&mut self, format: Format, k: u8, plot: Plot) {
-        let at = format.record() * usize::from(k);
-        self.put_narrow(at, plot.number, plot.outline);
-        if format == Format::Wide {
-            self.put(at + 24, &fee_row(plot.number).to_le_bytes());
+    // Makes the sheet of these plots, with no heading.
+    fn make_sheet(&mut self, format: Format, plots: &[Plot]) {
+        let mut count = 0u16;
+        for plot in plots {
+            self.append_record(format, plot.number, plot.outline);
+            count = count.saturating_add(1);
         }
+        self.append_trailer(format, count);
     }
 
-    // Puts the trailer after so many records.
-    fn put_end(&mut self, format: Format, count: u8) {
-        let each = format.record() as u32;
-        let bytes = each * u32::from(count);
-        self.put_trailer(bytes as usize, bytes, u32::from(count), each);
-        self.len = bytes as usize + 16;
-    }
-
-    // What an insert answers and leaves in the buffer, and the listing.
+    // What an insert answers and leaves in the buffer, the listing, and the conversion.
     fn tell_grown(&mut self, rt: &impl Print, plot: Plot) -> io::Result<()> {
         self.tell_insert(rt, plot.number, plot.outline)?;
         say_digest(rt, self.bytes)?;
-        self.show(rt)
+        self.show(rt)?;
+        self.tell_copy(rt)?;
+        Ok(())
     }
 
-    // What the calls answer for a sheet, of which record k is fetched; then an insert of the plot 50.
+    // What the calls answer for a sheet, of which record k is fetched; then an insert of another plot near the middle.
     fn tell_calls(&mut self, rt: &impl Print, k: u32) -> io::Result<()> {
         self.say_checked(rt)?;
         self.say_both(rt, k)?;
         self.show(rt)?;
-        let number = 50;
-        let outline = plot(50);
-        self.tell_grown(rt, Plot { number, outline })
+        self.tell_copy(rt)?;
+        self.tell_grown(rt, late())
     }
 }
 
-// The plot alone.
-fn alone(rt: &impl Print, format: Format, plot: Plot) -> io::Result<()> {
-    let mut bytes = [PAST; 110];
+// The calls for the sheet of these plots, of which record k is fetched.
+fn tell_sheet(rt: &impl Print, format: Format, plots: &[Plot], k: u32) -> io::Result<()> {
+    let mut bytes = [PAST; ROOM];
     let mut sheet = Buffer::new(&mut bytes, 0);
-    sheet.put_record(format, 0, plot);
-    sheet.put_end(format, 1);
-    sheet.tell_calls(rt, 0)
+    sheet.make_sheet(format, plots);
+    sheet.tell_calls(rt, k)
 }
 
-// The plot after the plot near the middle.
-fn second(rt: &impl Print, format: Format, plot: Plot) -> io::Result<()> {
-    let mut bytes = [PAST; 110];
+// The far plot put into a sheet of the plot near the middle.
+fn tell_put_in(rt: &impl Print, format: Format, far: Plot) -> io::Result<()> {
+    let mut bytes = [PAST; ROOM];
     let mut sheet = Buffer::new(&mut bytes, 0);
-    sheet.put_record(format, 0, near());
-    sheet.put_record(format, 1, plot);
-    sheet.put_end(format, 2);
-    sheet.tell_calls(rt, 1)
+    sheet.make_sheet(format, &[near()]);
+    sheet.tell_grown(rt, far)
 }
 
-// The plot put into a sheet of the plot near the middle.
-fn put_in(rt: &impl Print, format: Format, plot: Plot) -> io::Result<()> {
-    let mut bytes = [PAST; 110];
-    let mut sheet = Buffer::new(&mut bytes, 0);
-    sheet.put_record(format, 0, near());
-    sheet.put_end(format, 1);
-    sheet.tell_grown(rt, plot)
+// The far plot alone, after the plot near the middle, and put into a sheet of that.
+fn tell_plot(rt: &impl Print, format: Format, far: Plot) -> io::Result<()> {
+    tell_sheet(rt, format, &[far], 0)?;
+    tell_sheet(rt, format, &[near(), far], 1)?;
+    tell_put_in(rt, format, far)
 }
 
 // The numbers and starts of plots that reach up to 16,000 to the east, the north, the west and the south; and up to 16,001.
-const FAR: [(u32, i32, i32); 8] = [
+const OLD_FAR: [(u32, i32, i32); 8] = [
     (70001, 15439, 211),
     (80002, -322, 14702),
     (90003, -15484, 433),
@@ -99,13 +100,39 @@ const FAR: [(u32, i32, i32); 8] = [
     (140008, -988, -16001),
 ];
 
-pub fn edges(rt: &impl Print, format: Format) -> io::Result<()> {
-    for (number, i, j) in FAR {
+// The same for 2,000,000 and 2,000,001.
+const COUNTY_FAR: [(u32, i32, i32); 8] = [
+    (150009, 1855823, 20011),
+    (160010, -30022, 1666414),
+    (170011, -1867388, 40033),
+    (180012, 50044, -2000000),
+    (190013, 1855824, -60055),
+    (200014, 70066, 1666415),
+    (210015, -1867389, -80077),
+    (220016, -90088, -2000001),
+];
+
+// About the edges of the old map, in records of each format.
+fn old_edges(rt: &impl Print, format: Format) -> io::Result<()> {
+    for (number, i, j) in OLD_FAR {
         let outline = wide(i, j);
-        let plot = Plot { number, outline };
-        alone(rt, format, plot)?;
-        second(rt, format, plot)?;
-        put_in(rt, format, plot)?;
+        tell_plot(rt, format, Plot { number, outline })?;
     }
     Ok(())
+}
+
+// About the edges of the map, in records of 46.
+fn county_edges(rt: &impl Print) -> io::Result<()> {
+    for (number, i, j) in COUNTY_FAR {
+        let outline = broad(i, j);
+        tell_plot(rt, Format::County, Plot { number, outline })?;
+    }
+    Ok(())
+}
+
+pub fn edges(rt: &impl Print) -> io::Result<()> {
+    for format in Format::ALL {
+        old_edges(rt, format)?;
+    }
+    county_edges(rt)
 }

@@ -6,7 +6,7 @@ use std::io;
 
 // The least, the next, the largest, and one whose lower byte is 0.
 pub fn fees(rt: &impl Print) -> io::Result<()> {
-    let mut bytes = [0; 120];
+    let mut bytes = [0; 210];
     let mut sheet = Buffer::new(&mut bytes, 0);
     sheet.tell_start(rt, 0)?;
     for (number, fee_row) in [(9, 0), (11, 1), (13, 65535), (12, 256)] {

@@ -9,7 +9,7 @@ pub const HEADING: [u8; 20] = *b"Plots of the parish\n";
 // Writes the lengths, the heading, the listing, the records and how far the bytes past the sheet are kept, after inserts of three plots in
 // this order.
 pub fn ordered(rt: &impl Print, numbers: [u32; 3]) -> io::Result<()> {
-    let mut bytes = [PAST; 160];
+    let mut bytes = [PAST; 190];
     let mut sheet = Buffer::new(&mut bytes, 0);
     sheet.put(0, &HEADING);
     sheet.tell_start(rt, HEADING.len())?;

@@ -1,26 +1,30 @@
-// Sheets made in memory by `start` and `insert`, or byte by byte, spoilt and grown, and what each call answers. tests/sheet_cases.py works
-// the expected output out on its own.
+// Sheets made in memory by `start` and `insert`, or byte by byte, or read from standard input, spoilt, grown and converted, and what each
+// call answers. tests/sheet_cases.py works the expected output out on its own.
 #![tactic(auto)]
 
 use buffer::Buffer;
 use format::Format;
 use making::PAIR;
 use std::io;
+use std::io::Read;
 
 mod buffer;
+mod converting;
 mod edges;
 mod fees;
 mod format;
 mod fullest;
 mod headings;
+mod laid;
 mod large;
 mod making;
-mod narrow;
 mod old;
 mod orders;
 mod plots;
 mod reading;
+mod rooms;
 mod spoilt;
+mod sums;
 mod trailers;
 mod words;
 
@@ -30,34 +34,19 @@ fn samples(rt: &impl Print) -> io::Result<()> {
     let mut sheet = Buffer::new(&mut bytes, 0);
     sheet.make_example(rt)?;
     sheet.show(rt)?;
-    sheet.tell_start(rt, 52)?;
+    sheet.tell_start(rt, 92)?;
     sheet.show(rt)
 }
 
 // The sheet of two plots in a format: its bytes, trailers and lengths changed, and plots put into it.
 fn two_plots(rt: &impl Print, format: Format) -> io::Result<()> {
     spoilt::every_byte(rt, format)?;
+    spoilt::twice(rt, format)?;
     spoilt::wrong_lengths(rt, format)?;
     trailers::trailers(rt, format)?;
     reading::reading(rt, format)?;
     orders::numbers(rt, format)?;
     orders::last_number(rt, format)
-}
-
-// The sheet of 24 that is kept as its bytes.
-fn old_sheet(rt: &impl Print) -> io::Result<()> {
-    old::unaltered(rt)?;
-    old::places(rt)?;
-    old::rooms(rt)?;
-    old::empty(rt)
-}
-
-// The fullest sheets.
-fn full_sheets(rt: &impl Print) -> io::Result<()> {
-    for count in [2519, 2520, 2730] {
-        fullest::fullest(rt, count)?;
-    }
-    large::largest(rt)
 }
 
 // Inserts of three plots in several orders.
@@ -68,22 +57,41 @@ fn three_orders(rt: &impl Print) -> io::Result<()> {
     Ok(())
 }
 
-fn all(rt: &impl Print) -> io::Result<()> {
+// Counts and sums of 64 bits.
+fn great_sums(rt: &impl Print) -> io::Result<()> {
+    sums::counts(rt)?;
+    sums::sum(rt)?;
+    sums::greatest(rt, Format::Base, 2730)?;
+    sums::greatest(rt, Format::Fee, 2520)?;
+    sums::greatest(rt, Format::County, 1424)
+}
+
+// The fullest sheets.
+fn full_sheets(rt: &impl Print) -> io::Result<()> {
+    fullest::inserts(rt)?;
+    fullest::conversions(rt)?;
+    large::largest(rt)
+}
+
+fn all(rt: &impl Print, input: &mut impl Read) -> io::Result<()> {
     samples(rt)?;
-    two_plots(rt, Format::Narrow)?;
-    two_plots(rt, Format::Wide)?;
-    spoilt::twice(rt)?;
+    for format in Format::ALL {
+        two_plots(rt, format)?;
+    }
     orders::outlines(rt)?;
-    edges::edges(rt, Format::Narrow)?;
-    edges::edges(rt, Format::Wide)?;
+    orders::past_old_map(rt)?;
+    edges::edges(rt)?;
     fees::fees(rt)?;
     three_orders(rt)?;
-    old_sheet(rt)?;
+    old::old_sheets(rt, input)?;
+    rooms::empty(rt, Format::Base)?;
+    rooms::empty(rt, Format::Fee)?;
     orders::limits(rt)?;
+    great_sums(rt)?;
     full_sheets(rt)
 }
 
 // Where a line cannot be written, nothing more is.
 fn main(rt: HostRuntime) {
-    let _ = all(&rt);
+    let _ = all(&rt, &mut rt.stdin());
 }

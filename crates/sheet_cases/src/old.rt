@@ -1,107 +1,103 @@
-// A sheet of 24 as an insert of document 01 made it, kept as its bytes: it is checked, fetched, read and listed with the fee
-// row 0, and an insert writes it anew at 26.
+// The sheets of tests/old_sheets/, from standard input, as they were written when records had 24 and 26 bytes: each is checked, fetched,
+// read, listed and converted, and plots are put into it, which writes it anew at 46.
 use crate::buffer::{Buffer, PAST};
-use crate::headings::HEADING;
-use crate::plots::plot;
+use crate::plots::{county, plot};
 use crate::words::say_digest;
+use outline::Outline;
 use std::io;
+use std::io::Read;
 
-// The length of the sheet, and the room that one record more needs.
-const LENGTH: usize = 88;
+// The room for such a sheet and two records more.
+const ROOM: usize = 400;
 
-const ROOM: usize = 120;
+// The next byte of the input; after its end, 0.
+fn next_byte(input: &mut impl Read) -> u8 {
+    let mut byte = [0];
+    let _ = input.read_exact(&mut byte);
+    byte[0]
+}
 
-// The records of the plots 7, 11407 and 16909060, and the trailer, on a line each.
-const OLD: [u8; LENGTH] = *b"\
-    \x07\0\0\0\x02\0\xff\xff\x03\0\0\0\x01\0\0\0\x03\0\0\0\x01\0\0\0\
-    \x8f\x2c\0\0\0\0\0\0\0\0\x01\0\0\0\x01\0\0\0\x01\0\0\0\x01\0\
-    \x04\x03\x02\x01\xd4\xfe\x03\x02\x2c\x01\x05\x01\x06\x04\x07\0\x22\x04\x0c\0\x02\x03\x04\x02\
-    \x48\0\0\0\x03\0\0\0\x18\0\0\0GRND";
+// A sheet in the first bytes of a buffer, which are lent anew for each call.
+#[derive(Clone, Copy)]
+struct OldSheet {
+    bytes: [u8; ROOM],
+    len: usize,
+}
 
-// Writes what a sheet says: the count, the first four records and the listing.
-fn say_all(rt: &impl Print, sheet: &Buffer) -> io::Result<()> {
-    sheet.say_checked(rt)?;
-    for k in 0..4 {
-        sheet.say_both(rt, k)?;
+impl OldSheet {
+    // The next sheet of the input: its length in a byte, and its bytes.
+    fn read(input: &mut impl Read) -> Self {
+        let len = usize::from(next_byte(input));
+        let mut bytes = [PAST; ROOM];
+        let _ = input.read_exact(&mut bytes[..len]);
+        OldSheet { bytes, len }
     }
-    sheet.show(rt)
-}
 
-pub fn unaltered(rt: &impl Print) -> io::Result<()> {
-    let mut bytes = OLD;
-    say_all(rt, &Buffer::new(&mut bytes, LENGTH))
-}
-
-// An insert into the sheet after so many bytes of heading: the length, the whole buffer's digest, what the sheet says, and how far the
-// bytes past it are kept. Then one more plot.
-fn grown(rt: &impl Print, heading: u8, number: u32) -> io::Result<()> {
-    let at = usize::from(heading);
-    let mut bytes = [PAST; 180];
-    let mut sheet = Buffer::new(&mut bytes, at + LENGTH);
-    sheet.put(0, &HEADING);
-    sheet.put(at, &OLD);
-    sheet.tell_insert(rt, number, plot(number))?;
-    say_digest(rt, sheet.bytes)?;
-    say_all(rt, &sheet)?;
-    sheet.say_kept(rt)?;
-    sheet.tell_insert(rt, 512, plot(512))?;
-    say_digest(rt, sheet.bytes)?;
-    sheet.show(rt)
-}
-
-// Before the first record, in both places between two, and after the last; with no heading, and with twenty bytes.
-pub fn places(rt: &impl Print) -> io::Result<()> {
-    for heading in [0, 20] {
-        for number in [5, 303, 16909059, 16909061] {
-            grown(rt, heading, number)?;
+    // Writes what it says: the count, the first six records and the listing; then its conversions.
+    fn say_all(self, rt: &impl Print) -> io::Result<()> {
+        let mut bytes = self.bytes;
+        let sheet = Buffer::new(&mut bytes, self.len);
+        sheet.say_checked(rt)?;
+        for k in 0..6 {
+            sheet.say_both(rt, k)?;
         }
+        sheet.show(rt)?;
+        sheet.tell_copies(rt)
     }
-    Ok(())
-}
 
-// An insert in a buffer with so much room, and the digest of all bytes afterwards.
-fn tell_room(rt: &impl Print, room: usize, number: u32) -> io::Result<()> {
-    let mut bytes = [PAST; ROOM];
-    Buffer::new(&mut bytes, 0).put(0, &OLD);
-    Buffer::new(&mut bytes[..room.min(ROOM)], LENGTH).tell_insert(rt, number, plot(number))?;
-    say_digest(rt, &bytes)
-}
-
-// Room for nothing more, for a record of 24 more, for one of 26 more but not for the others at 26, and for all less a byte; then a number
-// that is there, and 0, which come before that; then room for all.
-pub fn rooms(rt: &impl Print) -> io::Result<()> {
-    let inserts = [
-        (LENGTH, 303),
-        (LENGTH + 24, 303),
-        (LENGTH + 26, 303),
-        (ROOM - 1, 303),
-        (LENGTH + 24, 11407),
-        (LENGTH + 24, 0),
-        (ROOM, 303),
-    ];
-    for (room, number) in inserts {
-        tell_room(rt, room, number)?;
+    // An insert: the length, which is given back, the whole buffer's digest, the listing, how far the bytes past the sheet are kept, and the
+    // conversion. Then one more plot.
+    fn tell_grown(self, rt: &impl Print, number: u32, outline: Outline) -> io::Result<usize> {
+        let mut bytes = self.bytes;
+        let mut sheet = Buffer::new(&mut bytes, self.len);
+        sheet.tell_insert(rt, number, outline)?;
+        let len = sheet.len;
+        say_digest(rt, sheet.bytes)?;
+        sheet.show(rt)?;
+        sheet.say_kept(rt)?;
+        sheet.tell_copy(rt)?;
+        sheet.tell_insert(rt, 512, plot(512))?;
+        say_digest(rt, sheet.bytes)?;
+        Ok(len)
     }
-    Ok(())
+
+    // An insert with so much room, and the digest of all bytes afterwards.
+    fn tell_within(self, rt: &impl Print, room: usize, number: u32) -> io::Result<()> {
+        let mut bytes = self.bytes;
+        Buffer::new(&mut bytes[..room.min(ROOM)], self.len).tell_insert(rt, number, plot(number))?;
+        say_digest(rt, &bytes)
+    }
+
+    // Inserts before its first record, between two or after the last, of plots on the old map and off it; then with room for nothing more, for
+    // one record more but not for the others at 46, for all less a byte and for all; then the number 0 and a number that most of the sheets
+    // have, for which there is no room either.
+    fn tell_inserts(self, rt: &impl Print) -> io::Result<()> {
+        self.tell_grown(rt, 4, plot(4))?;
+        self.tell_grown(rt, 80003, county(80003))?;
+        self.tell_grown(rt, u32::MAX, county(u32::MAX))?;
+        let needed = self.tell_grown(rt, 9, plot(9))?;
+        let len = self.len;
+        let rooms = [
+            (len, 9),
+            (len.saturating_add(46), 9),
+            (needed.saturating_sub(1), 9),
+            (needed, 9),
+            (len, 0),
+            (len, 303),
+        ];
+        for (room, number) in rooms {
+            self.tell_within(rt, room, number)?;
+        }
+        Ok(())
+    }
 }
 
-// An insert into a sheet of 24 that has no plots, after five bytes, with room for so many bytes.
-fn tell_empty(rt: &impl Print, room: usize) -> io::Result<()> {
-    let mut bytes = [PAST; 60];
-    let mut sheet = Buffer::new(&mut bytes, 21);
-    sheet.put_trailer(5, 0, 0, 24);
-    sheet.show(rt)?;
-    let mut lent = Buffer::new(&mut bytes[..room.min(60)], 21);
-    lent.tell_insert(rt, 303, plot(303))?;
-    let len = lent.len;
-    Buffer::new(&mut bytes, len).show(rt)?;
-    say_digest(rt, &bytes)
-}
-
-// Room for a record of 24, for one of 26, and for more.
-pub fn empty(rt: &impl Print) -> io::Result<()> {
-    for room in [45, 47, 60] {
-        tell_empty(rt, room)?;
+// As many sheets as the first byte says.
+pub fn old_sheets(rt: &impl Print, input: &mut impl Read) -> io::Result<()> {
+    for _ in 0..next_byte(input) {
+        let sheet = OldSheet::read(input);
+        sheet.say_all(rt)?;
+        sheet.tell_inserts(rt)?;
     }
     Ok(())
 }

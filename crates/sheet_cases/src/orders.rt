@@ -1,13 +1,13 @@
 // Calls that more than one refusal fits: the first in document 01's order is given, and the sheet stays as it was.
 use crate::buffer::{Buffer, PAST};
 use crate::format::Format;
-use crate::plots::{plot, unclosed, wide};
+use crate::plots::{broad, plot, unclosed, wide};
 use crate::words::say_digest;
 use outline::Outline;
 use std::io;
 
-// What `insert` answers and leaves in a buffer of 93 bytes, for a length that is stated: a sheet of two plots, and one byte less than three
-// records of 26 need.
+// What `insert` answers and leaves in a buffer of 153 bytes, for a length that is stated: a sheet of two plots, and one byte less than three
+// records of 46 need.
 fn tell_insert(
     rt: &impl Print,
     format: Format,
@@ -15,7 +15,7 @@ fn tell_insert(
     number: u32,
     outline: Outline,
 ) -> io::Result<()> {
-    let mut bytes = [0; 93];
+    let mut bytes = [0; 153];
     let mut sheet = Buffer::new(&mut bytes, 0);
     sheet.make_pair(rt, format)?;
     sheet.len = len;
@@ -27,17 +27,24 @@ fn tell_insert(
 // the east, north, west and south, each with the number 0 and into a sheet that is too short.
 pub fn outlines(rt: &impl Print) -> io::Result<()> {
     let wrong = [
-        unclosed(15440, 0),
+        unclosed(1855824, 0),
         unclosed(0, 1),
-        wide(15440, 0),
-        wide(0, 14703),
-        wide(-15485, 0),
-        wide(0, -16001),
+        broad(1855824, 0),
+        broad(0, 1666415),
+        broad(-1867389, 0),
+        broad(0, -2000001),
     ];
     for outline in wrong {
-        tell_insert(rt, Format::Wide, 15, 0, outline)?;
+        tell_insert(rt, Format::County, 15, 0, outline)?;
     }
     Ok(())
+}
+
+// An outline that leaves the old map alone has none of these, whatever the format of the sheet: a sheet that is too short, and the number 0.
+pub fn past_old_map(rt: &impl Print) -> io::Result<()> {
+    tell_insert(rt, Format::Base, 15, 0, wide(15440, 0))?;
+    tell_insert(rt, Format::Base, Format::Base.pair(), 0, wide(0, 14703))?;
+    tell_insert(rt, Format::Fee, Format::Fee.pair(), 0, wide(-15485, 0))
 }
 
 // The sheet's come before the number's, and the number's before the room's: 15 bytes and one less than the sheet are no sheet, and after
@@ -61,7 +68,7 @@ pub fn numbers(rt: &impl Print, format: Format) -> io::Result<()> {
 // A plot that just fits, with the largest number, and one more; records that there are, and two that there are not, also where the
 // sheet is none.
 pub fn last_number(rt: &impl Print, format: Format) -> io::Result<()> {
-    let mut bytes = [0; 94];
+    let mut bytes = [0; 154];
     let mut sheet = Buffer::new(&mut bytes, 0);
     sheet.make_pair(rt, format)?;
     sheet.tell_insert(rt, u32::MAX, plot(u32::MAX))?;
@@ -70,7 +77,7 @@ pub fn last_number(rt: &impl Print, format: Format) -> io::Result<()> {
     for k in [0, 1, 2, 3, u32::MAX] {
         sheet.say_fetched(rt, k)?;
     }
-    sheet.len = 93;
+    sheet.len = 153;
     sheet.say_fetched(rt, u32::MAX)
 }
 

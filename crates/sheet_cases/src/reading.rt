@@ -1,4 +1,4 @@
-// What `check`, `fetch` and `read` answer, side by side, for a sheet of two plots of either format. A `read` looks at the length, the
+// What `check`, `fetch` and `read` answer, side by side, for a sheet of two plots of any format. A `read` looks at the length, the
 // trailer and k, and not at the records.
 use crate::buffer::Buffer;
 use crate::format::Format;
@@ -23,7 +23,15 @@ const SOUND: [(usize, u8, u32); 4] = [(0, 255, 0), (0, 255, 1), (0, 255, 2), (0,
 
 // A number that is 0, an outline that is open, and one that leaves the map, in the record that is asked for or in another, or before a k
 // that is too large.
-const WRONG_RECORDS: [(usize, u8, u32); 4] = [(0, 0, 0), (8, 43, 1), (5, 127, 0), (0, 0, 2)];
+fn wrong_records(rt: &impl Print, format: Format) -> io::Result<()> {
+    let all = [
+        (0, 0, 0),
+        (format.side(), 43, 1),
+        (format.last_of_i(), 127, 0),
+        (0, 0, 2),
+    ];
+    changed(rt, format, &all)
+}
 
 // Wrong letters, and a wrong distance, before a k that is too large.
 fn wrong_trailers(rt: &impl Print, format: Format) -> io::Result<()> {
@@ -45,7 +53,7 @@ fn wrong_lengths(rt: &impl Print, format: Format) -> io::Result<()> {
 
 pub fn reading(rt: &impl Print, format: Format) -> io::Result<()> {
     changed(rt, format, &SOUND)?;
-    changed(rt, format, &WRONG_RECORDS)?;
+    wrong_records(rt, format)?;
     wrong_trailers(rt, format)?;
     wrong_lengths(rt, format)
 }

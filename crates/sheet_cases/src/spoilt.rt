@@ -1,4 +1,4 @@
-// A sheet of two plots, of either format, with bytes changed, and with lengths that are not its own. The check reads fields in document
+// A sheet of two plots, of any format, with bytes changed, and with lengths that are not its own. The check reads fields in document
 // 01's order.
 use crate::buffer::Buffer;
 use crate::format::Format;
@@ -29,46 +29,35 @@ pub fn every_byte(rt: &impl Print, format: Format) -> io::Result<()> {
 // Two bytes that are changed, each by its index: two things are wrong, or each makes up for the other.
 type Changes = [(usize, u8); 2];
 
-// Of the sheet of 24: opposite sides that shrink alike; letters and distance; distance and number; number and side; side and start; a side,
-// and a start, of the first record and the number or a side of the second.
-const NARROW: [Changes; 7] = [
-    [(8, 43), (16, 33)],
-    [(60, 0), (48, 0)],
-    [(48, 0), (0, 0)],
-    [(0, 0), (8, 0)],
-    [(8, 0), (5, 127)],
-    [(8, 0), (25, 0)],
-    [(5, 127), (32, 0)],
-];
+// Opposite sides that shrink alike; letters and distance; distance and number; number and side; side and start; a side, and a start, of
+// the first record and the number or a side of the second; the last byte of the first record and of the second.
+fn changes(format: Format) -> [Changes; 8] {
+    let side = format.side();
+    let second = format.record();
+    let end = format.pair();
+    [
+        [(side, 43), (format.opposite(), 33)],
+        [(end - 4, 0), (end - 16, 0)],
+        [(end - 16, 0), (0, 0)],
+        [(0, 0), (side, 0)],
+        [(side, 0), (format.last_of_i(), 127)],
+        [(side, 0), (second + 1, 0)],
+        [(format.last_of_i(), 127), (second + side, 0)],
+        [(second - 1, 251), (end - 17, 252)],
+    ]
+}
 
-// The same of the sheet of 26, and two fee rows that are changed.
-const WIDE: [Changes; 8] = [
-    [(8, 43), (16, 33)],
-    [(64, 0), (52, 0)],
-    [(52, 0), (0, 0)],
-    [(0, 0), (8, 0)],
-    [(8, 0), (5, 127)],
-    [(8, 0), (27, 0)],
-    [(5, 127), (34, 0)],
-    [(24, 251), (51, 252)],
-];
-
-fn each(rt: &impl Print, format: Format, all: &[Changes]) -> io::Result<()> {
-    for changes in all {
+pub fn twice(rt: &impl Print, format: Format) -> io::Result<()> {
+    for changes in changes(format) {
         let mut bytes = [0; PAIR];
         let mut sheet = Buffer::new(&mut bytes, 0);
         sheet.make_pair(rt, format)?;
         for (at, byte) in changes {
-            sheet.put(*at, &[*byte]);
+            sheet.put(at, &[byte]);
         }
         sheet.show(rt)?;
     }
     Ok(())
-}
-
-pub fn twice(rt: &impl Print) -> io::Result<()> {
-    each(rt, Format::Narrow, &NARROW)?;
-    each(rt, Format::Wide, &WIDE)
 }
 
 // A sheet that is too short, cut, longer, or longer than its buffer.
@@ -76,7 +65,7 @@ pub fn wrong_lengths(rt: &impl Print, format: Format) -> io::Result<()> {
     let mut bytes = [0; PAIR];
     let mut sheet = Buffer::new(&mut bytes, 0);
     sheet.make_pair(rt, format)?;
-    for len in [0, 15, 16, 63, 65, 67, 69, usize::MAX] {
+    for len in [0, 15, 16, 63, 65, 67, 69, PAIR - 1, PAIR + 1, usize::MAX] {
         sheet.len = len;
         sheet.show(rt)?;
     }

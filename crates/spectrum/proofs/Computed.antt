@@ -1,5 +1,6 @@
 -- Spectra computed: one worked out by hand, in lists of each length from 0 to one past the last entry; one of operands whose bounds all
--- differ, by sets of cells; an opening that is filled; and the refusals in their order. Assumes nothing.
+-- differ, by sets of cells; an opening that is filled; entries past 32 bits, and as many folds as the map is wide; and the refusals in
+-- their order. Assumes nothing.
 use mathlib.Core.Path.{◌≡◌, refl}
 use mathlib.Core.Bool.{Bool, true, false}
 use mathlib.Core.List.{List, [], ◌∷◌}
@@ -13,6 +14,7 @@ use Rattle.octagon.specs.NormalForm.{even_bound, odd_bound, tight_even, tight_od
 use Rattle.octagon.specs.OneCell.{one_cell}
 use Rattle.cell_count.specs.Count.{inside}
 use Rattle.cell_count.specs.Area.{triangle, rectangle, cuts, area, cell_count}
+use Rattle.cell_count.proofs.Examples.{whole_map, nearly_all}
 use Rattle.morphology.specs.Operations.{sums, differences, is_rising, is_falling, are_opposed}
 use Rattle.morphology.specs.Folds.{multiples, dilation_n, erosion_n}
 use Rattle.morphology.proofs.ComputedFolds.{bounds}
@@ -79,6 +81,21 @@ pub filled_by_hand : spectrum k13 k4 0 ∷ spectrum k13 k4 1 ∷ spectrum k13 k4
 unfolding spectrum walk frame_form open_cells dilation_n erosion_n cell_count area rectangle cuts triangle inside normalised normal_form tight_odd tight_even even_bound odd_bound min_ℤ half_ℤ has_cell placed is_on_map sums differences multiples are_opposed is_rising is_falling
 filled_by_hand = refl
 
+-- ---- as large as the map
+
+-- nearly all of the map by the map, which fits nowhere, and the map by itself: it fits once, and all is lost by the second trim
+pub past_32_bits : spectrum nearly_all whole_map 3 ∷ spectrum whole_map whole_map 3 ∷ [] ≡ ends true (15999983996307 ∷ []) ∷ ends true (0 ∷ 16000008000001 ∷ []) ∷ []
+unfolding spectrum walk frame_form open_cells dilation_n erosion_n cell_count area rectangle cuts triangle inside normalised normal_form tight_odd tight_even even_bound odd_bound min_ℤ half_ℤ has_cell placed is_on_map sums differences multiples are_opposed is_rising is_falling
+past_32_bits = refl
+
+-- the map by (0, 0) and (1, 0): all its cells are open by 4,000,000 folds, and none by 4,000,001, which the limit allows
+abbrev side_by_side : Octagon
+side_by_side = bounds (pos 0) (pos 1) (pos 1) (pos 1) (pos 0) (pos 0) (pos 0) (pos 0)
+
+pub last_fold : open_cells whole_map side_by_side 4000000 ∷ open_cells whole_map side_by_side 4000001 ∷ [] ≡ 16000008000001 ∷ 0 ∷ []
+unfolding open_cells dilation_n erosion_n cell_count area rectangle cuts triangle normalised normal_form tight_odd tight_even even_bound odd_bound min_ℤ half_ℤ has_cell placed is_on_map sums differences multiples are_opposed is_rising is_falling
+last_fold = refl
+
 -- ---- refusals, each before those below it, also for a list of no place
 
 -- no cell: the rows from 3 up to 2; off the map: one column too far east; no (0, 0): one cell beside it; (0, 0) alone, and so with slack bounds
@@ -86,7 +103,7 @@ abbrev empty : Octagon
 empty = bounds (negsuc 2) (pos 40) (pos 30) (pos 50) (pos 2) (pos 20) (pos 10) (pos 60)
 
 abbrev off : Octagon
-off = bounds (pos 0) (pos 40000) (pos 16001) (pos 50000) (pos 2) (pos 20) (pos 10) (pos 60)
+off = bounds (pos 0) (pos 4000000) (pos 2000001) (pos 5000000) (pos 2) (pos 20) (pos 10) (pos 60)
 
 abbrev beside : Octagon
 beside = one_cell (pos 1) (pos 0)
@@ -98,7 +115,7 @@ abbrev slack_alone : Octagon
 slack_alone = bounds (pos 0) (pos 7) (pos 3) (pos 0) (pos 4) (pos 5) (pos 0) (pos 2)
 
 pub refusals_in_order :
-    spectrum empty off 0 ∷ spectrum off empty 3 ∷ spectrum plot empty 0 ∷ spectrum plot off 3 ∷ spectrum off beside 3 ∷ spectrum empty alone 0 ∷ spectrum plot beside 0 ∷ spectrum plot alone 0 ∷ spectrum plot slack_alone 3 ∷ spectrum off alone 0 ∷ spectrum plot (one_cell (pos 16001) (pos 0)) 3 ∷ []
+    spectrum empty off 0 ∷ spectrum off empty 3 ∷ spectrum plot empty 0 ∷ spectrum plot off 3 ∷ spectrum off beside 3 ∷ spectrum empty alone 0 ∷ spectrum plot beside 0 ∷ spectrum plot alone 0 ∷ spectrum plot slack_alone 3 ∷ spectrum off alone 0 ∷ spectrum plot (one_cell (pos 2000001) (pos 0)) 3 ∷ []
     ≡ refused 1 ∷ refused 2 ∷ refused 1 ∷ refused 2 ∷ refused 2 ∷ refused 1 ∷ refused 19 ∷ refused 20 ∷ refused 20 ∷ refused 2 ∷ refused 2 ∷ []
 unfolding spectrum walk frame_form open_cells dilation_n erosion_n cell_count area rectangle cuts triangle inside normalised normal_form tight_odd tight_even even_bound odd_bound min_ℤ half_ℤ has_cell placed is_on_map sums differences multiples are_opposed is_rising is_falling
 refusals_in_order = refl

@@ -59,7 +59,7 @@ fn frame_form(frame: Octagon) -> Result<NormalForm, Refusal>
 }
 
 // The cells of a plot that n folds of a frame open; 0 where nothing is left.
-fn open_cells(a: NormalForm, b: NormalForm, n: u32) -> u32
+fn open_cells(a: NormalForm, b: NormalForm, n: u32) -> u64
     requires { n ≤ fold_limit }
     ensures { result ≡ spec.open_cells a.bounds b.bounds n }
 {
@@ -67,7 +67,7 @@ fn open_cells(a: NormalForm, b: NormalForm, n: u32) -> u32
 }
 
 // Writes what is lost from each number of folds to the next, until nothing is left or the list is full.
-fn walk(a: NormalForm, b: NormalForm, list: &mut [u32]) -> Spectrum
+fn walk(a: NormalForm, b: NormalForm, list: &mut [u64]) -> Spectrum
     requires { spec.frame_form b.bounds ≡ accepted b.bounds }
     ensures result_value { ending_of result ≡ ending (walks.walk (spec.open_cells a.bounds b.bounds) (length list.old) 0 (counts.area a.bounds)) }
     ensures list_after { list.new ≡ splice list.old 0 (walks.walk (spec.open_cells a.bounds b.bounds) (length list.old) 0 (counts.area a.bounds)).entries }
@@ -91,7 +91,7 @@ fn walk(a: NormalForm, b: NormalForm, list: &mut [u32]) -> Spectrum
 pub fn pattern_spectrum(
     plot: Octagon,
     frame: Octagon,
-    list: &mut [u32],
+    list: &mut [u64],
 ) -> Result<Spectrum, Refusal>
     ensures result_value { outcome result ≡ ended (spec.spectrum plot frame (length list.old)) }
     ensures list_after { list.new ≡ spec.after_spectrum plot frame list.old }

@@ -7,7 +7,7 @@ use std::fmt;
 #[derive(Clone, Copy)]
 pub struct Told {
     word: &'static str,
-    case: u32,
+    case: u64,
     number: usize,
 }
 
@@ -28,16 +28,15 @@ impl fmt::Display for Told {
     }
 }
 
-// Goes on with a number, round 2 ^ 32.
-pub fn mixed(sum: u32, n: u32) -> u32 {
+// Goes on with a number, round 2 ^ 64.
+pub fn mixed(sum: u64, n: u64) -> u64 {
     sum.wrapping_mul(69069).wrapping_add(n)
 }
 
 impl Told {
     // A number made of the answer and of the places of the list after the call, in order.
-    pub fn digest(&self, list: &[u32]) -> u32 {
-        let number = (self.number % 4294967296) as u32;
-        list.iter()
-            .fold(mixed(self.case, number), |sum, n| mixed(sum, *n))
+    pub fn digest(&self, list: &[u64]) -> u64 {
+        let answer = mixed(self.case, self.number as u64);
+        list.iter().fold(answer, |sum, n| mixed(sum, *n))
     }
 }

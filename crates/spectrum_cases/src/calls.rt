@@ -13,26 +13,26 @@ pub struct Call {
 }
 
 // What a list has before a call: 901, 902 and on.
-fn fill(list: &mut [u32]) {
+fn fill(list: &mut [u64]) {
     for (k, n) in list.iter_mut().enumerate() {
-        *n = (k % 65536) as u32 + 901;
+        *n = (k % 65536) as u64 + 901;
     }
 }
 
 impl Call {
     // Makes the call with all places of a list.
-    fn answer(&self, list: &mut [u32]) -> Told {
+    fn answer(&self, list: &mut [u64]) -> Told {
         fill(list);
         Told::from(pattern_spectrum(self.plot, self.frame, list))
     }
 
     // Makes the call, and gives a digest of what it answered and of the list.
-    pub fn digest(&self, list: &mut [u32]) -> u32 {
+    pub fn digest(&self, list: &mut [u64]) -> u64 {
         self.answer(list).digest(list)
     }
 
     // The same, with the call written on a line.
-    pub fn tell(&self, rt: &impl Print, list: &mut [u32]) -> io::Result<u32> {
+    pub fn tell(&self, rt: &impl Print, list: &mut [u64]) -> io::Result<u64> {
         let answer = self.answer(list);
         println!(rt;
             "plot{}, frame{}, places {}: {answer}, {}",

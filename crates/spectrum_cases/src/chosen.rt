@@ -18,7 +18,7 @@ const PLOT: Octagon = Octagon {
 };
 
 // Calls with each number of places up to those of a list.
-fn lengths(rt: &impl Print, call: Call, list: &mut [u32]) -> io::Result<()> {
+fn lengths(rt: &impl Print, call: Call, list: &mut [u64]) -> io::Result<()> {
     for places in 0..=list.len() {
         call.tell(rt, &mut list[..places])?;
     }
@@ -64,15 +64,19 @@ fn by_each(rt: &impl Print, plot: Octagon, frames: &[Octagon]) -> io::Result<()>
 // east of it, the three beside it in a block of four, and the cell south-west of it; (0, 0) alone, also by bounds that are not all reached.
 pub fn refusals(rt: &impl Print) -> io::Result<()> {
     let none = Octagon::new(5, 0, 5, 1, 5, 0, 5, -1);
-    let past = Octagon::new(-3, 15998, 16001, 16005, 4, -15995, -15999, -16002);
+    let past = Octagon::new(
+        -3, 1999998, 2000001, 2000005, 4, -1999995, -1999999, -2000002,
+    );
     let no_row = Octagon::new(-3, 9, 9, 9, 2, 9, 9, 9);
-    let off = Octagon::new(2, 16003, 16001, 15999, -2, -16003, -16001, -15999);
+    let off = Octagon::new(
+        2, 2000003, 2000001, 1999999, -2, -2000003, -2000001, -1999999,
+    );
     let beside = Octagon::new(0, 2, 2, 3, 1, 0, -1, -1);
     let frames = [
         no_row,
         none,
         off,
-        Octagon::new(0, MAX, 16001, MAX, 0, MAX, 0, MAX),
+        Octagon::new(0, MAX, 2000001, MAX, 0, MAX, 0, MAX),
         beside,
         Octagon::new(0, 1, 1, 1, 0, -1, -1, -1),
         Octagon::new(0, 1, 1, 2, 1, 1, 0, -1),

@@ -145,7 +145,7 @@ impl Drawn {
     // A plot about a cell that is drawn too. Every 16th is near the map's eastern edge.
     fn plot(&self) -> Octagon {
         let x = if self.k % 16 == 15 {
-            (self.b % 16) as i32 + 15990
+            (self.b % 16) as i32 + 1_999_990
         } else {
             near(self.b)
         };

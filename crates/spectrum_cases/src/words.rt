@@ -21,14 +21,12 @@ impl fmt::Display for Bounds {
 
 // The sum of a list and its places, of a long one the last.
 #[derive(Clone, Copy)]
-pub struct Places<'a>(pub &'a [u32]);
+pub struct Places<'a>(pub &'a [u64]);
 
 impl Places<'_> {
     // The sum of all places, round 2 ^ 64.
     fn sum(&self) -> u64 {
-        self.0
-            .iter()
-            .fold(0u64, |sum, n| sum.wrapping_add(u64::from(*n)))
+        self.0.iter().fold(0u64, |sum, n| sum.wrapping_add(*n))
     }
 }
 

@@ -1,4 +1,4 @@
--- Small values of the definitions, computed: a tape of eight corners, cells on their edges, and each refusal. Assumes nothing.
+-- Values of the definitions, computed: a tape of eight corners, cells on their edges, the map's edges, and each refusal. Assumes nothing.
 use mathlib.Core.Path.{◌≡◌, refl}
 use mathlib.Core.Bool.{true, false}
 use mathlib.Core.List.{List, [], ◌∷◌}
@@ -7,6 +7,7 @@ use lib.Ieee.{Float, nan, inf, fin, round}
 use Rattle.integers.specs.Minimum.{max_ℤ}
 use Rattle.octagon.specs.Outcome.{accepted, refused}
 use Rattle.octagon.specs.NormalForm.{is_on_map, placed}
+use Rattle.octagon.specs.OneCell.{one_cell}
 use Rattle.outline.specs.Places.{over, quarter}
 use Rattle.tape.specs.Snapping.{snapped}
 use Rattle.tape.specs.Hull.{hull}
@@ -43,8 +44,8 @@ near_nought : (snapped (fin true 0 (pos 0)) ∷ snapped (fin false 1 (negsuc 107
 unfolding snapped
 near_nought = refl
 
--- the last cell's upper edge, 4000.125 metres, is off the map, and so is the greatest number; -4000.125 is on it
-past_last : enclosed (fin false 13 (negsuc 1) ∷ fin false 32001 (negsuc 2) ∷ []) ≡ refused 2
+-- the last cell's upper edge, 500000.125 metres, is off the map, and so is the greatest number; -500000.125 is on it
+past_last : enclosed (fin false 13 (negsuc 1) ∷ fin false 4000001 (negsuc 2) ∷ []) ≡ refused 2
 unfolding enclosed point_cell snapped placed is_on_map
 past_last = refl
 
@@ -52,10 +53,24 @@ greatest : enclosed (fin false 9007199254740991 (pos 971) ∷ fin false 13 (negs
 unfolding enclosed point_cell snapped placed is_on_map
 greatest = refl
 
-first_edge : enclosed (fin false 13 (negsuc 1) ∷ fin true 32001 (negsuc 2) ∷ [])
-    ≡ accepted (record { c0 = pos 16000; c1 = pos 16013; c2 = pos 13; c3 = negsuc 15986; c4 = negsuc 15999; c5 = negsuc 16012; c6 = negsuc 12; c7 = pos 15987 })
+first_edge : enclosed (fin false 13 (negsuc 1) ∷ fin true 4000001 (negsuc 2) ∷ [])
+    ≡ accepted (record { c0 = pos 2000000; c1 = pos 2000013; c2 = pos 13; c3 = negsuc 1999986; c4 = negsuc 1999999; c5 = negsuc 2000012; c6 = negsuc 12; c7 = pos 1999987 })
 unfolding enclosed point_cell snapped placed is_on_map
 first_edge = refl
+
+-- the numbers next to the map's edges, to the east and to the north: the greatest below 500000.125 is in the last cell, and the next below
+-- -500000.125 in none of the map's
+next_to_edges : (enclosed (fin false 8589936739483647 (negsuc 33) ∷ fin false 13 (negsuc 1) ∷ []) ∷ enclosed (fin false 13 (negsuc 1) ∷ fin false 8589936739483647 (negsuc 33) ∷ [])
+    ∷ enclosed (fin true 8589936739483649 (negsuc 33) ∷ fin false 13 (negsuc 1) ∷ []) ∷ enclosed (fin false 13 (negsuc 1) ∷ fin true 8589936739483649 (negsuc 33) ∷ []) ∷ [])
+    ≡ (accepted (one_cell (pos 2000000) (pos 13)) ∷ accepted (one_cell (pos 13) (pos 2000000)) ∷ refused 2 ∷ refused 2 ∷ [])
+unfolding enclosed point_cell snapped placed is_on_map
+next_to_edges = refl
+
+-- vertices of the map's last cells, and of the ones before them, are exact: 500000 and 499999.75 metres, and as far to the west and south
+exact_at_edges : enclosed (quarter (pos 2000000) ∷ quarter (negsuc 1999999) ∷ []) ∷ enclosed (quarter (negsuc 1999998) ∷ quarter (pos 1999999) ∷ []) ∷ []
+    ≡ accepted (one_cell (pos 2000000) (negsuc 1999999)) ∷ accepted (one_cell (negsuc 1999998) (pos 1999999)) ∷ []
+unfolding enclosed point_cell snapped over round placed is_on_map
+exact_at_edges = refl
 
 -- no point; half a point
 none : enclosed [] ≡ refused 15
@@ -67,17 +82,17 @@ unfolding enclosed
 half = refl
 
 -- of one point a coordinate that is not finite comes first, of two points the first point
-not_finite_first : enclosed (fin false 5000 (pos 0) ∷ inf true ∷ []) ≡ refused 14
+not_finite_first : enclosed (fin false 600000 (pos 0) ∷ inf true ∷ []) ≡ refused 14
 unfolding enclosed point_cell snapped
 not_finite_first = refl
 
-off_map_first : enclosed (fin false 5000 (pos 0) ∷ fin false 0 (pos 0) ∷ nan ∷ nan ∷ []) ≡ refused 2
+off_map_first : enclosed (fin false 600000 (pos 0) ∷ fin false 0 (pos 0) ∷ nan ∷ nan ∷ []) ≡ refused 2
 unfolding enclosed point_cell snapped placed is_on_map
 off_map_first = refl
 
 -- and of three the first that is refused: off the map before no number, no number before off the map
-first_refused : (enclosed (fin true 11 (negsuc 1) ∷ fin false 7 (negsuc 0) ∷ fin false 5000 (pos 0) ∷ fin true 39 (negsuc 2) ∷ nan ∷ fin false 3 (pos 0) ∷ [])
-    ∷ enclosed (fin true 11 (negsuc 1) ∷ fin false 7 (negsuc 0) ∷ nan ∷ fin false 3 (pos 0) ∷ fin false 5000 (pos 0) ∷ fin true 39 (negsuc 2) ∷ []) ∷ [])
+first_refused : (enclosed (fin true 11 (negsuc 1) ∷ fin false 7 (negsuc 0) ∷ fin false 600000 (pos 0) ∷ fin true 39 (negsuc 2) ∷ nan ∷ fin false 3 (pos 0) ∷ [])
+    ∷ enclosed (fin true 11 (negsuc 1) ∷ fin false 7 (negsuc 0) ∷ nan ∷ fin false 3 (pos 0) ∷ fin false 600000 (pos 0) ∷ fin true 39 (negsuc 2) ∷ []) ∷ [])
     ≡ (refused 2 ∷ refused 14 ∷ [])
 unfolding enclosed point_cell snapped placed is_on_map hull max_ℤ
 first_refused = refl

@@ -59,4 +59,4 @@ returns c =
     let x = c.all_rows-x.ensures in
     let r = right a.sheet.now a.len _ _ _ c.is_bad_length.ensures c.if-is_bad_length.false c.read_trailer.ensures c.in_ok-z.ensures in
     let p = plot_from t.length a.sheet.now (first a.len t.distance) t.count a.k (omega (arith, c.if-z-k.false)) in
-    ap accepted (c.plot.ensures ∙ (rw (x.at_is, x.each_is) at c.record.ensures)) ∙ sym (read_framed a.sheet.now a.len a.k r ∙ p)
+    ap accepted (c.plot.ensures ∙ (rw (x.at_is, x.each_is) at c.record.ensures.plot)) ∙ sym (read_framed a.sheet.now a.len a.k r ∙ p)

@@ -10,7 +10,7 @@ use Rattle.sheet.specs.declared.Record.{Record}
 use Rattle.sheet.specs.Checking.{checked, plots, read}
 use Rattle.sheet.proofs.ReadCases.{read_checked}
 use Rattle.report.proofs.Pages.{written_nothing}
-use Rattle.report.proofs.Plots.{plot, plots_counted, plot_fetched, total_cells_most, row_room, row_more, total_cells_more, rest_end, total_cells_end}
+use Rattle.report.proofs.Plots.{plot, plots_counted, plot_fetched, total_fits, row_room, row_more, total_cells_more, rest_end, total_cells_end}
 use Rattle.report.proofs.rows.put_rows.Goals as goal
 
 -- the record that is read in a turn
@@ -43,9 +43,7 @@ overflow_add-sum c =
         arith,
         c.loop-k.invariant.1,
         total_cells_more rs c.loop-k.k p.0 _ p.1 _ c.cells-n.ensures,
-        total_cells_most rs,
-        plots_counted a.sheet.now a.len a.c c.requires.len_value,
-        c.ranges.c,
+        total_fits a.sheet.now a.len a.c c.requires.len_value,
       );
     }
 

@@ -2,6 +2,7 @@
 use mathlib.Core.Path.{sym, ◌∙◌}
 use native.Mathlib.Omega.{arith}
 use Rattle.std.proofs.lemmas.Result.{err_from_is_err_and}
+use Rattle.sheet.specs.Layout.{map_limit}
 use Rattle.sheet.specs.Sheets.{sheet_of}
 use Rattle.sheet.proofs.Frames.{framing}
 use Rattle.sheet.proofs.Surveys.{all_refused, all_passed}
@@ -28,7 +29,7 @@ returns-in_err-survey-clause-sheet c =
     let a = c.args in
     let z = c.in_ok-z.z in
     let r = c.all_rows-rows.ensures in
-    let e = all_refused z (sheet_of a.sheet.now a.len z).plots (rw (r.at_is, r.count_is, r.each_is) at (sym c.in_err-survey.ensures)) in
+    let e = all_refused (map_limit z.length) z (sheet_of a.sheet.now a.len z).plots (rw (r.at_is, r.count_is, r.each_is) at (sym c.in_err-survey.ensures)) in
     let p = err_from_is_err_and c.from_residual-in_err-survey.result c.from_residual-in_err-survey.ensures.1 in
     rw (p.1, p.2) (sym (parsed_refused a.sheet.now a.len (inspected_records a.sheet.now a.len (sym c.in_ok-z.ensures) ∙ e)))
 
@@ -49,5 +50,5 @@ returns-clause-sheet c =
     let a = c.args in
     let z = c.in_ok-z.z in
     let r = c.all_rows-rows.ensures in
-    let e = all_passed z (sheet_of a.sheet.now a.len z).plots (rw (r.at_is, r.count_is, r.each_is) at (sym c.in_ok-survey.ensures)) in
+    let e = all_passed (map_limit z.length) z (sheet_of a.sheet.now a.len z).plots (rw (r.at_is, r.count_is, r.each_is) at (sym c.in_ok-survey.ensures)) in
     rw (r.at_is, r.count_is, r.each_is) (sym (parsed_sheet a.sheet.now a.len (inspected_records a.sheet.now a.len (sym c.in_ok-z.ensures) ∙ e)))

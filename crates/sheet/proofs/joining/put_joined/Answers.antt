@@ -5,7 +5,8 @@ use lib.ListN.{take}
 use lib.Seq.{length-take-le}
 use Rattle.sheet.specs.Merging.{merged}
 use Rattle.sheet.specs.Stored.{plots_of}
-use Rattle.sheet.proofs.Overwritten.{over_in_turn}
+use Rattle.sheet.proofs.Layouts.{record_is_length}
+use Rattle.sheet.proofs.Overwritten.{laid_in_turn}
 use Rattle.sheet.proofs.joining.put_joined.Goals as goal
 
 pub returns : goal.returns
@@ -15,4 +16,4 @@ returns c =
     let heading_length = length-take-le at a.a.bytes.now (omega (arith, a.a.within)) in
     c.put_trailer.ensures
     ∙ rw (c.put_merged.ensures, c.copy_bytes.ensures)
-    (over_in_turn a.u.now (take at a.a.bytes.now) (merged (plots_of a.a) (plots_of a.b)) at a.all heading_length (sym c.requires.all_value) c.requires.trailer_length_in_bounds.0)
+    (laid_in_turn _ record_is_length a.u.now (take at a.a.bytes.now) (merged (plots_of a.a) (plots_of a.b)) at a.all heading_length (sym c.requires.all_value) c.requires.trailer_length_in_bounds.0)

@@ -1,17 +1,16 @@
 -- `number` meets its contract. Assumes nothing.
 use mathlib.Core.Path.{◌∙◌}
 use native.Mathlib.Omega.{arith}
-use Rattle.sheet.proofs.Layouts.{every_field, narrow_fields, number_decoded}
-use Rattle.sheet.proofs.Plots.{number_within}
+use Rattle.sheet.proofs.Layouts.{shortest, tests_length}
+use Rattle.sheet.proofs.Plots.{number_there}
 use Rattle.sheet.proofs.encoding.StoredRecord.number.Goals as goal
 
-pub read_number-requires : goal.read_number-requires
-read_number-requires c =
-    let L = c.args.self.each.bytes in
-    rw c.widths-widths.ensures (narrow_fields L 0, omega (arith, number_within L))
+pub read_four-requires : goal.read_four-requires
+read_four-requires c =
+    let r = c.args.self in
+    omega (arith, r.inside, shortest r.each.bytes (tests_length _ r.each.known))
 
 pub returns : goal.returns
 returns c =
-    let a = c.args in
-    (rw c.widths-widths.ensures at c.read_number.ensures)
-    ∙ number_decoded _ a.self.bytes.now a.self.at a.self.each.bytes (omega (arith, every_field a.self.each.bytes)) (number_within a.self.each.bytes)
+    let r = c.args.self in
+    c.read_four.ensures ∙ number_there r.each.bytes (tests_length _ r.each.known) r.bytes.now r.at

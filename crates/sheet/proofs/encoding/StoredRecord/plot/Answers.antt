@@ -1,30 +1,30 @@
 -- `plot` meets its contract. Assumes nothing.
+use mathlib.Core.Path.{sym, ap, ◌∙◌}
+use mathlib.Core.List.{List}
+use Prim.Native.Nat.{ℕ}
 use native.Mathlib.Omega.{arith}
-use Rattle.sheet.proofs.Plots.{fields_within, signs_fit, fee_small, read_there}
+use lib.ListN.{drop}
+use Rattle.sheet.specs.Layout.{decoded}
+use Rattle.sheet.proofs.Layouts.{all_narrow, narrow_fee, within_length, each_layout}
+use Rattle.sheet.proofs.Plots.{read_there}
 use Rattle.sheet.proofs.encoding.StoredRecord.plot.Goals as goal
 
-pub unpack-v-requires : goal.unpack-v-requires
-unpack-v-requires c =
-    let a = c.args in
-    (omega arith, (omega arith, (fields_within a.self.each.bytes a.self.bytes.now a.self.at _ c.widths-widths.ensures a.self.inside).0))
+pub returns-then-self-eq-COUNTY_RECORD : goal.returns-then-self-eq-COUNTY_RECORD
+returns-then-self-eq-COUNTY_RECORD c =
+    let r = c.args.self in
+    c.read_record.ensures ∙ ap (λ (ws : List ℕ). decoded ws (drop r.at r.bytes.now)) (sym each_layout.2) ∙ rw c.if-self-eq-COUNTY_RECORD.true (read_there _ r.bytes.now r.at)
 
-pub outline_of-outline-requires-clause-widths_bound : goal.outline_of-outline-requires-clause-widths_bound
-outline_of-outline-requires-clause-widths_bound c =
-    let a = c.args in
-    (signs_fit a.self.each.bytes a.self.bytes.now a.self.at _ c.widths-widths.ensures _ c.unpack-v.ensures.values c.unpack-v.ensures.fit).0
+pub read_record-requires-else-self-eq-COUNTY_RECORD-clause-inside : goal.read_record-requires-else-self-eq-COUNTY_RECORD-clause-inside
+read_record-requires-else-self-eq-COUNTY_RECORD-clause-inside c =
+    let L = c.args.self.each.bytes in
+    rw c.short_widths-widths.ensures (omega (arith, within_length L, c.args.self.inside))
 
-pub outline_of-outline-requires-clause-v_bound : goal.outline_of-outline-requires-clause-v_bound
-outline_of-outline-requires-clause-v_bound c =
-    let a = c.args in
-    (signs_fit a.self.each.bytes a.self.bytes.now a.self.at _ c.widths-widths.ensures _ c.unpack-v.ensures.values c.unpack-v.ensures.fit).1
+pub read_record-requires-else-self-eq-COUNTY_RECORD-clause-narrow_widths : goal.read_record-requires-else-self-eq-COUNTY_RECORD-clause-narrow_widths
+read_record-requires-else-self-eq-COUNTY_RECORD-clause-narrow_widths c =
+    let L = c.args.self.each.bytes in
+    rw c.short_widths-widths.ensures (all_narrow L, narrow_fee L)
 
-pub overflow_cast-fee_row : goal.overflow_cast-fee_row
-overflow_cast-fee_row c =
-    let a = c.args in
-    record { fits = fee_small a.self.each.bytes a.self.bytes.now a.self.at _ c.widths-widths.ensures _ c.unpack-v.ensures.values c.unpack-v.ensures.fit }
-
-pub returns : goal.returns
-returns c =
-    let a = c.args in
-    let r = read_there a.self.each.bytes a.self.bytes.now a.self.at _ c.widths-widths.ensures _ c.unpack-v.ensures.values in
-    rw c.outline_of-outline.ensures r
+pub returns-else-self-eq-COUNTY_RECORD : goal.returns-else-self-eq-COUNTY_RECORD
+returns-else-self-eq-COUNTY_RECORD c =
+    let r = c.args.self in
+    c.read_record-else-self-eq-COUNTY_RECORD.ensures ∙ ap (λ (ws : List ℕ). decoded ws (drop r.at r.bytes.now)) c.short_widths-widths.ensures ∙ read_there _ r.bytes.now r.at

@@ -10,17 +10,19 @@ use Rattle.sheet.proofs.stored.Records.has_number.Goals as goal
 pub returns-then-number-v : goal.returns-then-number-v
 returns-then-number-v c =
     let l = c.loop-k in
+    let e = c.number.ensures ∙ ap (λ (r : Record). r.number) c.record.ensures.plot in
     let x = c.args.self.rows in
-    sym (l.invariant ∙ present_here x.each.bytes c.args.self.bytes.now (x.at + x.each.bytes * l.k) (x.count - l.k) c.args.v _ (omega arith) (c.number.ensures ∙ ap (λ (r : Record). r.number) c.record.ensures) c.if-number-v.true)
+    sym (l.invariant ∙ present_here x.each.bytes c.args.self.bytes.now (x.at + x.each.bytes * l.k) (x.count - l.k) c.args.v _ (omega arith) e c.if-number-v.true)
 
 pub loop-k-preserved : goal.loop-k-preserved
 loop-k-preserved c =
     let l = c.loop-k in
+    let e = c.number.ensures ∙ ap (λ (r : Record). r.number) c.record.ensures.plot in
     let x = c.args.self.rows in
     let p : x.at + x.each.bytes * (l.k + 1) ≡ x.at + x.each.bytes * l.k + x.each.bytes = omega (arith, mul_more x.each.bytes l.k) in
     let n : x.count - (l.k + 1) ≡ x.count - l.k - 1 = omega arith in
     rw (p, n)
-    (l.invariant ∙ present_on x.each.bytes c.args.self.bytes.now (x.at + x.each.bytes * l.k) (x.count - l.k) c.args.v _ (omega arith) (c.number.ensures ∙ ap (λ (r : Record). r.number) c.record.ensures) c.if-number-v.false)
+    (l.invariant ∙ present_on x.each.bytes c.args.self.bytes.now (x.at + x.each.bytes * l.k) (x.count - l.k) c.args.v _ (omega arith) e c.if-number-v.false)
 
 pub returns : goal.returns
 returns c =

@@ -10,19 +10,21 @@ use Rattle.sheet.proofs.stored.Records.rank.Goals as goal
 pub returns-then-v-number : goal.returns-then-v-number
 returns-then-v-number c =
     let l = c.loop-k in
+    let e = c.number.ensures ∙ ap (λ (r : Record). r.number) c.record.ensures.plot in
     let x = c.args.self.rows in (
-      omega (arith, rank_here x.each.bytes c.args.self.bytes.now (x.at + x.each.bytes * l.k) (x.count - l.k) c.args.v _ (omega arith) (c.number.ensures ∙ ap (λ (r : Record). r.number) c.record.ensures) c.if-v-number.true),
+      omega (arith, rank_here x.each.bytes c.args.self.bytes.now (x.at + x.each.bytes * l.k) (x.count - l.k) c.args.v _ (omega arith) e c.if-v-number.true),
       omega arith,
     )
 
 pub loop-k-preserved : goal.loop-k-preserved
 loop-k-preserved c =
     let l = c.loop-k in
+    let e = c.number.ensures ∙ ap (λ (r : Record). r.number) c.record.ensures.plot in
     let x = c.args.self.rows in
     let p : x.at + x.each.bytes * (l.k + 1) ≡ x.at + x.each.bytes * l.k + x.each.bytes = omega (arith, mul_more x.each.bytes l.k) in
     let n : x.count - (l.k + 1) ≡ x.count - l.k - 1 = omega arith in
     rw (p, n)
-    (omega (arith, rank_on x.each.bytes c.args.self.bytes.now (x.at + x.each.bytes * l.k) (x.count - l.k) c.args.v _ (omega arith) (c.number.ensures ∙ ap (λ (r : Record). r.number) c.record.ensures) (omega arith)))
+    (omega (arith, rank_on x.each.bytes c.args.self.bytes.now (x.at + x.each.bytes * l.k) (x.count - l.k) c.args.v _ (omega arith) e (omega arith)))
 
 pub returns : goal.returns
 returns c =
